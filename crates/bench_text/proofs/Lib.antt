@@ -1,0 +1,11 @@
+pub mod Choosing
+pub mod Cutting
+pub mod Hexing
+pub mod Judging
+pub mod Laying
+pub mod Lining
+pub mod Marking
+pub mod Meeting
+pub mod Numbering
+pub mod Recording
+pub mod Valuing

@@ -1,0 +1,5 @@
+use Rattle.bench_text.proofs.Cutting.{Unmarked}
+use Rattle.bench_text.proofs.cuts.cut.Given as given
+
+abbrev pub Inv-loop-i : given.InvT-loop-i
+Inv-loop-i l = Unmarked (l .mark) (l .text) (l .i)

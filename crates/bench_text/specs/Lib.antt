@@ -1,0 +1,9 @@
+pub mod Choice
+pub mod Cut
+pub mod Decimal
+pub mod Heading
+pub mod Hex
+pub mod Lines
+pub mod Message
+pub mod Reading
+pub mod Spelling

@@ -1,0 +1,5 @@
+pub mod Bytes
+pub mod Lawful
+pub mod Layout
+pub mod Marks
+pub mod Ring

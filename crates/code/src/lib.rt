@@ -1,0 +1,11 @@
+// Queue code: the 16-byte record, its layout, and the checker.
+mod bytes;
+mod layout;
+mod marks;
+mod places;
+mod record;
+mod target;
+
+pub use places::Places;
+pub use record::Record;
+pub use target::Target;
