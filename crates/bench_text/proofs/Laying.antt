@@ -46,7 +46,7 @@ lines-open text l (m ∷ ls) whole e =
     let same = append-cancel-right text (l ++ (10 ∷ more .0)) (10 ∷ []) (e ∙ last-newline l (m ∷ ls) .1) in
     ap lines same ∙ line-first l (more .0) (whole .0 .1) ∙ ap (λ (x : List (List ℕ)). l ∷ x) (lines-open (more .0) m ls (whole .1) (sym (more .1)))
 
-all-free : (ls : List (List ℕ)) → All Whole ls → All (Free 10) ls
+pub all-free : (ls : List (List ℕ)) → All Whole ls → All (Free 10) ls
 all-free [] whole = tt
 all-free (l ∷ ls) whole = (whole .0 .1, all-free ls (whole .1))
 
@@ -61,7 +61,7 @@ opened (b ∷ bs) l ls e =
     let step = lines-step (b ∷ bs) (omega arith) in
     (omega arith, cc, cc)
 
-no-lines : (text : List ℕ) → lines text ≡ [] → text ≡ []
+pub no-lines : (text : List ℕ) → lines text ≡ [] → text ≡ []
 no-lines [] e = refl
 no-lines (b ∷ bs) e = let step = lines-step (b ∷ bs) (omega arith) in let z : _≡_ {A = ℕ} 0 1 = cc in absurd (omega arith)
 

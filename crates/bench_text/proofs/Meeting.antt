@@ -59,7 +59,7 @@ glyph-high d = grind (arith, tells)
 
 hex-free : (bytes : List ℕ) → Free 10 (hexOf bytes)
 hex-free [] = tt
-hex-free (b ∷ bytes) = ((λ e. omega (arith, glyph-high (b / 16))), (λ e. omega (arith, glyph-high (b % 16))), hex-free bytes)
+hex-free (b ∷ bytes) = ((λ e. omega (arith, glyph-high (b / 16))), ((λ e. omega (arith, glyph-high (b % 16))), hex-free bytes))
 
 pub record-whole : (line bytes : List ℕ) → SpellsRecord line bytes → Whole line
 record-whole line [] h = absurd (omega (arith, h .sixteen))

@@ -16,7 +16,7 @@ use Rattle.bench_text.specs.declared.answers.Expected.{Expected}
 use Rattle.bench_text.specs.declared.answers.Expected.the-variants.{Numbers, Record}
 use Rattle.bench_text.specs.declared.answers.TextError.{TextError}
 use Rattle.bench_text.specs.declared.answers.TextError.the-variants.{Line, NoMemory}
-use Rattle.bench_text.specs.Reading.{Bench, benchOf}
+use Rattle.bench_text.specs.Reading.{Bench, given, refused, benchOf, Says}
 
 -- one decimal digit or more, of a value below 2 ^ 64
 pub record SpellsNumber (digits : List ℕ) (n : ℕ) : Type 0 where
@@ -104,3 +104,9 @@ abbrev pub Tells : Result BenchCode TextError → List ℕ → Type 0
 Tells (Ok b) text = Spells text (benchOf b)
 Tells (Err (Line n e)) text = Refuses text n e
 Tells (Err NoMemory) text = Unit {0}
+
+-- the answer is the code just where the text spells it, and a line just where that line is the first that is not of the form
+pub record Judges (answer : Result BenchCode TextError) (text : List ℕ) : Type 0 where
+  pub answer-holds : Tells answer text
+  pub every-spelling-is-read : (b : Bench) → Spells text b → Says benchOf answer (given b)
+  pub every-fault-is-found : (n : ℕ) (want : Expected) → Refuses text n want → Says benchOf answer (refused n want)

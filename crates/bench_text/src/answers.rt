@@ -2,7 +2,7 @@
 ghost use mathlib.Core.Path.{_≡_};
 ghost use Rattle.std.specs.declared.option.Option.the-variants.{Some};
 ghost use Rattle.bench_text.specs.declared.answers.TextError.the-variants.{NoMemory};
-ghost use Rattle.bench_text.specs.Message.{wanted, message};
+ghost use Rattle.bench_text.specs.Message.{message};
 use std::alloc::AllocError;
 use std::fmt;
 
@@ -36,23 +36,15 @@ pub impl From<AllocError> for TextError as TextErrorFromAlloc {
     }
 }
 
-pub impl fmt::Display for Expected as ExpectedDisplay {
-    ghost shown = { λ e. Some (wanted e) };
-
-    fn fmt<W: fmt::Write>(&self, f: &mut fmt::Formatter<W>) -> fmt::Result {
-        match self {
-            Expected::Numbers => write!(f, "the number of places and the number of results"),
-            Expected::Record => write!(f, "32 lower-case hex digits"),
-        }
-    }
-}
-
 pub impl fmt::Display for TextError as TextErrorDisplay {
     ghost shown = { λ e. Some (message e) };
 
     fn fmt<W: fmt::Write>(&self, f: &mut fmt::Formatter<W>) -> fmt::Result {
         match self {
-            TextError::Line { number, expected } => write!(f, "line {number}: expected {expected}"),
+            TextError::Line { number, expected } => match expected {
+                Expected::Numbers => write!(f, "line {number}: expected the number of places and the number of results"),
+                Expected::Record => write!(f, "line {number}: expected 32 lower-case hex digits"),
+            },
             TextError::NoMemory => write!(f, "out of memory"),
         }
     }

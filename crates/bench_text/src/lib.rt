@@ -11,7 +11,6 @@ pub use answers::BenchCodeDebug;
 pub use answers::BenchCodePartialEq;
 pub use answers::Expected;
 pub use answers::ExpectedDebug;
-pub use answers::ExpectedDisplay;
 pub use answers::ExpectedPartialEq;
 pub use answers::TextError;
 pub use answers::TextErrorDebug;

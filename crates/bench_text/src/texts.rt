@@ -1,8 +1,9 @@
 // Reads a whole text: the line of numbers, and then the code records.
-ghost use mathlib.Core.List.{[]};
+ghost use mathlib.Core.List.{[], _∷_};
 ghost use Rattle.std.specs.Of.Vec.{vec-items};
 ghost use Rattle.bench_text.specs.Lines.{lines};
-ghost use Rattle.bench_text.specs.Reading.{Says, benchOf, recordsFrom, reading};
+ghost use Rattle.bench_text.specs.Reading.{Says, benchOf, recordsFrom, linesRead, reading};
+ghost use Rattle.bench_text.specs.Spelling.{Judges};
 use crate::answers::BenchCode;
 use crate::answers::Expected;
 use crate::answers::TextError;
@@ -31,14 +32,22 @@ fn read_records(heap: Global, text: &[u8]) -> Result<Vec<u8>, TextError>
     Ok(code)
 }
 
-// The code that `text` brings, or the first line that is not of the form.
-pub fn read_bench(heap: Global, text: &[u8]) -> Result<BenchCode, TextError>
-    ensures { λ r. ⌜ Says benchOf r (reading (now (text .entry))) ⌝ }
+// The code that a text brings, by its first line and by what stands after it.
+fn read_lines(heap: Global, first: &[u8], rest: &[u8]) -> Result<BenchCode, TextError>
+    ensures { λ r. ⌜ Says benchOf r (linesRead (now (first .entry) ∷ lines (now (rest .entry)))) ⌝ }
 {
-    let (first, rest) = cut(text, b'\n');
     let Some(header) = read_header(first) else {
         return Err(TextError::Line { number: 1, expected: Expected::Numbers });
     };
     let code = read_records(heap, rest)?;
     Ok(BenchCode { places: header.places, results: header.results, code })
+}
+
+// The code that `text` brings, or the first line that is not of the form.
+pub fn read_bench(heap: Global, text: &[u8]) -> Result<BenchCode, TextError>
+    ensures answers_the_reading { λ r. ⌜ Says benchOf r (reading (now (text .entry))) ⌝ }
+    ensures judges_the_text { λ r. ⌜ Judges r (now (text .entry)) ⌝ }
+{
+    let (first, rest) = cut(text, b'\n');
+    read_lines(heap, first, rest)
 }

@@ -3,3 +3,5 @@ pub mod Options
 pub mod RowBytes
 pub mod RoundTrip
 pub mod RingViews
+pub mod RingSteps
+pub mod Walks

@@ -10,7 +10,7 @@ use lib.Dec.{ltb}
 use lib.ListN.{length, getD, set, take, drop, replicate, length-append, length-drop, length-set, length-take}
 use lib.Seq.{take-set-lt}
 use Rattle.code.specs.Marks.{fullCount, pass, ringView}
-use Rattle.std.proofs.shelf.Lists.{drop-all, drop-more, drop-set-add, drop-set-lt, getD-append-left, getD-append-right, getD-drop, getD-take, set-append-left, set-append-right, take-all, take-more-set, take-set-le, length-take-le}
+use Rattle.std.proofs.shelf.Lists.{drop-all, drop-more, drop-set-add, drop-set-lt, getD-append-left, getD-append-right, getD-drop, getD-take, set-append-left, set-append-right, take-all, take-more-set, take-replicate, take-set-le, length-take-le}
 use Rattle.std.proofs.shelf.Tests.{cases-lt, cond-both, cond-false, cond-true, le-ltb, lt-ltb, ltb-false, ltb-true}
 
 module _ {X : Type 0} (f : ℕ) (xs : List X) (within : f ≤ length xs) where
@@ -141,3 +141,9 @@ module _ (P f : ℕ) (slots : List Bool) (few : P ≤ length slots) (within : f 
   pub front-at : 0 < P → getD (ringView f (take P slots)) 0 false ≡ getD slots f false
   front-at some =
       place-at 0 some ∙ ap (λ j. getD slots j false) (cond-true _ _ _ (lt-ltb (f + 0) P (omega arith)) ∙ add-zero f)
+
+pub empty-view : (n P : ℕ) → P ≤ n → ringView 0 (take P (replicate n false)) ≡ replicate P false
+empty-view n P h = append-nil (take P (replicate n false)) ∙ take-replicate P n false h
+
+pub empty-count : (n P : ℕ) → P ≤ n → 0 ≡ fullCount (ringView 0 (take P (replicate n false)))
+empty-count n P h = sym (ap fullCount (empty-view n P h) ∙ count-none P)

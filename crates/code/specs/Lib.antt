@@ -3,3 +3,4 @@ pub mod Lawful
 pub mod Layout
 pub mod Marks
 pub mod Ring
+pub mod Verdict

@@ -2,7 +2,8 @@
 use mathlib.Core.Bool.{Bool, true, false, cond, _&&_}
 use mathlib.Core.List.{List, [], _∷_, _++_}
 use Prim.Native.Nat.{ℕ, zero, suc, _+_}
-use lib.ListN.{take, drop}
+use lib.Dec.{eqb}
+use lib.ListN.{getD, take, drop}
 
 -- how many places are full
 abbrev pub fullCount : List Bool → ℕ
@@ -16,13 +17,16 @@ pass (m ∷ ms) = ms ++ false ∷ []
 
 abbrev pub passes : ℕ → List Bool → List Bool
 passes zero ms = ms
-passes (suc n) ms = passes n (pass ms)
+passes (suc n) ms = pass (passes n ms)
 
 -- the first n places are there and full
 abbrev pub frontFull : ℕ → List Bool → Bool
 frontFull zero ms = true
-frontFull (suc n) [] = false
-frontFull (suc n) (m ∷ ms) = m && frontFull n ms
+frontFull (suc n) ms = getD ms n false && frontFull n ms
+
+-- the first n places are full, and no others
+abbrev pub justFront : ℕ → List Bool → Bool
+justFront n ms = frontFull n ms && eqb (fullCount ms) n
 
 -- a ring: the places are the slots from `front` on, and then those before it
 abbrev pub ringView : {X : Type 0} → ℕ → List X → List X

@@ -5,6 +5,7 @@ mod marks;
 mod places;
 mod record;
 mod target;
+mod walk;
 
 pub use places::Places;
 pub use record::Record;

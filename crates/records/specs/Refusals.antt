@@ -62,6 +62,16 @@ abbrev pub answer : {X : Type 0} → Result X Refusal → Answer X
 answer (Ok x) = granted x
 answer (Err r) = turnedAway r
 
+-- the same of a call that changes a value in place, by what that value is after it
+abbrev pub told : {X Y : Type 0} → Result X Refusal → Y → Answer Y
+told (Ok x) y = granted y
+told (Err r) y = turnedAway r
+
+-- a call that goes on from what another granted, and is refused as that was
+abbrev pub ifGranted : {X Y : Type 0} → Answer X → (X → Answer Y) → Answer Y
+ifGranted (granted x) f = f x
+ifGranted (refused n p e) f = refused n p e
+
 -- what is printed of a fault's number, 0 for none
 abbrev pub faultText : ℕ → List ℕ
 faultText n = cond (eqb n 0) [] (codes " with fault " ++ decimal n)

@@ -43,7 +43,11 @@ impl Marks {
     pub fn is_full(&self, k: usize) -> bool
         ensures { λ r. ⌜ r ≡ getD (view (now (self .entry))) k false ⌝ }
     {
-        k < self.places && self.slots[self.slot(k)]
+        if k >= self.places {
+            return false;
+        }
+        let slot = self.slot(k);
+        self.slots[slot]
     }
 
     // Marks the empty place k.
@@ -65,10 +69,24 @@ impl Marks {
             return;
         }
         let front = self.front;
-        if self.slots[front] {
-            self.full -= 1;
-        }
+        let next = self.next_front();
+        let full = self.full_after_pass();
         self.slots[front] = false;
-        self.front = if front + 1 < self.places { front + 1 } else { 0 };
+        self.front = next;
+        self.full = full;
+    }
+
+    // The front once place 0 is dropped.
+    fn next_front(&self) -> usize
+        ensures { λ r. ⌜ r ≡ cond (ltb (now (self .entry) .front + 1) (now (self .entry) .places)) (now (self .entry) .front + 1) 0 ⌝ }
+    {
+        if self.front + 1 < self.places { self.front + 1 } else { 0 }
+    }
+
+    // How many places are full once place 0 is dropped.
+    fn full_after_pass(&self) -> usize
+        ensures { λ r. ⌜ r ≡ fullCount (pass (view (now (self .entry)))) ⌝ }
+    {
+        if self.is_full(0) { self.full - 1 } else { self.full }
     }
 }
