@@ -13,7 +13,7 @@ use Rattle.std.proofs.shelf.Ways.{tells}
 use Rattle.bench_text.specs.Choice.{choose}
 use Rattle.bench_text.specs.Hex.{hexDigit, hexByte, hexBytes, hexRecord}
 use Rattle.bench_text.specs.Spelling.{hexOf, SpellsRecord}
-use Rattle.bench_text.proofs.Choosing.{chosen}
+use Rattle.bench_text.proofs.Choosing.{chosen, clash}
 use Rattle.bench_text.proofs.Lining.{record-length}
 use Rattle.bench_text.proofs.Recording.{long-record}
 
@@ -41,8 +41,8 @@ byte-read b small =
 
 bytes-spelt : (ds bytes : List ℕ) → hexBytes ds ≡ Some bytes → (ds ≡ hexOf bytes) × All (λ b. b < 256) bytes × (length ds ≡ 2 * length bytes)
 bytes-spelt [] [] e = (refl, tt, refl)
-bytes-spelt [] (b ∷ bytes) e = let z : _≡_ {A = ℕ} 0 1 = cc in absurd (omega arith)
-bytes-spelt (h ∷ []) bytes e = let z : _≡_ {A = ℕ} 0 1 = cc in absurd (omega arith)
+bytes-spelt [] (b ∷ bytes) e = clash (cc)
+bytes-spelt (h ∷ []) bytes e = clash (cc)
 bytes-spelt (h ∷ l ∷ ds) bytes e =
     let head = chosen (hexByte h l) (λ b. choose (hexBytes ds) None (λ more. Some (b ∷ more))) bytes e in
     let tail = chosen (hexBytes ds) (λ more. Some (head .0 ∷ more)) bytes (head .2) in

@@ -10,6 +10,7 @@ use Rattle.std.proofs.shelf.Lists.{append-cancel-right}
 use Rattle.bench_text.specs.Cut.{before, after}
 use Rattle.bench_text.specs.Lines.{lines}
 use Rattle.bench_text.specs.Spelling.{ended, Laid, Free, Ends}
+use Rattle.bench_text.proofs.Choosing.{clash}
 use Rattle.bench_text.proofs.Lining.{lines-step}
 use Rattle.bench_text.proofs.Marking.{before-free, rejoined, cut-marked, cut-free}
 
@@ -56,14 +57,14 @@ lines-laid text l ls whole laid =
 
 -- the first line and the rest of a text that has lines
 opened : (text l : List ℕ) (ls : List (List ℕ)) → lines text ≡ l ∷ ls → (0 < length text) × (l ≡ before 10 text) × (lines (after 10 text) ≡ ls)
-opened [] l ls e = let z : _≡_ {A = ℕ} 0 1 = cc in absurd (omega arith)
+opened [] l ls e = clash (cc)
 opened (b ∷ bs) l ls e =
     let step = lines-step (b ∷ bs) (omega arith) in
     (omega arith, cc, cc)
 
 pub no-lines : (text : List ℕ) → lines text ≡ [] → text ≡ []
 no-lines [] e = refl
-no-lines (b ∷ bs) e = let step = lines-step (b ∷ bs) (omega arith) in let z : _≡_ {A = ℕ} 0 1 = cc in absurd (omega arith)
+no-lines (b ∷ bs) e = let step = lines-step (b ∷ bs) (omega arith) in clash (cc)
 
 pub laid-lines : (ls : List (List ℕ)) (text : List ℕ) → lines text ≡ ls → Laid text ls
 laid-lines [] text e = inl (no-lines text e)

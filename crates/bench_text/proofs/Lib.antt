@@ -8,4 +8,5 @@ pub mod Marking
 pub mod Meeting
 pub mod Numbering
 pub mod Recording
+pub mod Rows
 pub mod Valuing

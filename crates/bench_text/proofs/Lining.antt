@@ -9,18 +9,14 @@ use lib.Dec.{eqb}
 use lib.ListN.{length}
 use Rattle.std.specs.declared.option.Option.{Option}
 use Rattle.std.specs.declared.option.Option.the-variants.{Some, None}
-use Rattle.std.specs.declared.result.Result.the-variants.{Err}
 use Rattle.std.proofs.shelf.Tests.{cases-bool, eqb-true, cond-false}
-use Rattle.bench_text.specs.declared.answers.Expected.the-variants.{Numbers, Record}
-use Rattle.bench_text.specs.declared.answers.TextError.{TextError}
-use Rattle.bench_text.specs.declared.answers.TextError.the-variants.{Line, NoMemory}
-use Rattle.bench_text.specs.declared.headings.Header.{Header}
+use Rattle.bench_text.specs.declared.answers.Expected.the-variants.{Record}
 use Rattle.bench_text.specs.Choice.{choose}
 use Rattle.bench_text.specs.Cut.{before, after}
-use Rattle.bench_text.specs.Heading.{headerOf}
 use Rattle.bench_text.specs.Hex.{hexBytes, hexRecord}
 use Rattle.bench_text.specs.Lines.{begun, lines}
-use Rattle.bench_text.specs.Reading.{Reading, Bench, given, refused, Says, recordsFrom, headed, linesRead, reading}
+use Rattle.bench_text.specs.Reading.{refused, recordsFrom, linesRead, reading}
+use Rattle.bench_text.proofs.Choosing.{clash}
 
 -- the first line of a text that is not empty, and the lines after it
 pub lines-step : (text : List ℕ) → 0 < length text → lines text ≡ before 10 text ∷ lines (after 10 text)
@@ -44,7 +40,7 @@ parts-fit mark (b ∷ bs) =
 
 pub record-length : (line bytes : List ℕ) → Some bytes ≡ hexRecord line → length line ≡ 32
 record-length line bytes e =
-    ⊎-elim (λ long. eqb-true (length line) 32 long) (λ other. let none = cond-false (eqb (length line) 32) (hexBytes line) None other in let z : _≡_ {A = ℕ} 0 1 = cc in absurd (omega arith)) (cases-bool (eqb (length line) 32))
+    ⊎-elim (λ long. eqb-true (length line) 32 long) (λ other. let none = cond-false (eqb (length line) 32) (hexBytes line) None other in clash (cc)) (cases-bool (eqb (length line) 32))
 
 module _ (n : ℕ) (code rest line later : List ℕ) (some : 0 < length rest) (front : line ≡ before 10 rest) (back : later ≡ after 10 rest) where
   step : (o : Option (List ℕ)) → o ≡ hexRecord line → choose o (refused n Record) (λ bytes. recordsFrom (n + 1) (code ++ bytes) (lines later)) ≡ recordsFrom n code (lines rest)
@@ -60,20 +56,10 @@ module _ (n : ℕ) (code rest line later : List ℕ) (some : 0 < length rest) (f
   pub shorter : (bytes : List ℕ) → Some bytes ≡ hexRecord line → 32 + length later ≤ length rest
   shorter bytes e = omega (arith, record-length line bytes e, parts-fit 10 rest, ap length front, ap length back)
 
-abbrev linesFrom : List ℕ → List ℕ → Reading Bench
-linesFrom first rest = linesRead (first ∷ lines rest)
-
 -- an empty text is refused as a text with an empty first line is
-split : (text : List ℕ) → linesFrom (before 10 text) (after 10 text) ≡ reading text
+split : (text : List ℕ) → linesRead (before 10 text ∷ lines (after 10 text)) ≡ reading text
 split [] = refl
 split (b ∷ bs) = sym (ap linesRead (lines-step (b ∷ bs) (omega arith)))
 
--- the whole text, from its first line and what follows it
-pub reading-step : (text first rest : List ℕ) → first ≡ before 10 text → rest ≡ after 10 text → (o : Option Header) → o ≡ headerOf first → choose o (refused 1 Numbers) (λ h. headed h (recordsFrom 2 [] (lines rest))) ≡ reading text
-reading-step text first rest front back o e =
-    ap (λ (x : Option Header). choose x (refused 1 Numbers) (λ h. headed h (recordsFrom 2 [] (lines rest)))) e ∙ (λ i. linesFrom (front i) (back i)) ∙ split text
-
--- an error among the records is the error of the whole
-pub same-error : {X Z : Type 0} (holds : X → List ℕ) (whole : Z → Bench) (y : TextError) (h : Header) (records : Reading (List ℕ)) (all : Reading Bench) → headed h records ≡ all → Says holds (Err y) records → Says whole (Err y) all
-same-error holds whole (Line n e) h records all step said = sym step ∙ ap (headed h) said
-same-error holds whole NoMemory h records all step said = tt
+pub whole-text : (text first rest : List ℕ) → first ≡ before 10 text → rest ≡ after 10 text → linesRead (first ∷ lines rest) ≡ reading text
+whole-text text first rest front back = (λ i. linesRead (front i ∷ lines (back i))) ∙ split text

@@ -12,7 +12,7 @@ use Rattle.std.proofs.shelf.Ways.{tells}
 use Rattle.bench_text.specs.Choice.{choose}
 use Rattle.bench_text.specs.Decimal.{decimalMore, decimalFrom, decimalNumber}
 use Rattle.bench_text.specs.Spelling.{SpellsNumber}
-use Rattle.bench_text.proofs.Choosing.{chosen}
+use Rattle.bench_text.proofs.Choosing.{chosen, clash}
 
 digit-read : (n c m : ℕ) → decimalMore n c ≡ Some m → (digitValue c < 10) × (n * 10 + digitValue c ≡ m) × (m < 2 ^ 64)
 digit-read n c m e = grind (arith, tells)
@@ -38,7 +38,7 @@ digits-reads n (c ∷ cs) digits fits =
     ap (λ (o : Option ℕ). choose o None (λ m. decimalFrom m cs)) (digit-reads n c (digits .0) (omega (arith, value-ge (n * 10 + digitValue c) cs))) ∙ digits-reads (n * 10 + digitValue c) cs (digits .1) fits
 
 pub number-spelt : (ds : List ℕ) (n : ℕ) → decimalNumber ds ≡ Some n → SpellsNumber ds n
-number-spelt [] n e = let z : _≡_ {A = ℕ} 0 1 = cc in absurd (omega arith)
+number-spelt [] n e = clash (cc)
 number-spelt (c ∷ cs) n e =
     let read = digits-read 0 (c ∷ cs) n (omega arith) e in
     record { numeral = (omega arith, read .0); valued = read .1; bounded = read .2 }

@@ -5,3 +5,5 @@ pub mod RoundTrip
 pub mod RingViews
 pub mod RingSteps
 pub mod Walks
+pub mod Records
+pub mod Verdicts

@@ -18,6 +18,10 @@ use Rattle.std.specs.Options.{mapped}
 use Rattle.std.specs.declared.option.Option.{Option}
 use Rattle.std.specs.declared.option.Option.the-variants.{Some, None}
 
+abbrev pub isRear : Target → Bool
+isRear Rear = true
+isRear (At p) = false
+
 -- byte 1: the number of places, or 255 for the rear
 abbrev pub countByte : Target → ℕ
 countByte Rear = 255

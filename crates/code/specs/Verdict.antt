@@ -5,7 +5,7 @@ use Prim.Native.Nat.{ℕ, zero, suc, _/_, _%_, min}
 use lib.Dec.{eqb, leb, ltb}
 use lib.ListN.{length, getD, set, take, replicate}
 use Rattle.code.specs.Bytes.{byteAt}
-use Rattle.code.specs.Layout.{andThen, recordAt}
+use Rattle.code.specs.Layout.{andThen, isRear, recordAt}
 use Rattle.code.specs.Marks.{frontFull, fullCount, justFront, passes}
 use Rattle.code.specs.declared.record.Record.{Record}
 use Rattle.code.specs.declared.target.Target.{Target}
@@ -17,10 +17,6 @@ use Rattle.std.specs.declared.option.Option.{Option}
 use Rattle.std.specs.declared.option.Option.the-variants.{Some, None}
 
 -- ---- well-formed code
-
-abbrev pub isRear : Target → Bool
-isRear Rear = true
-isRear (At p) = false
 
 abbrev pub same : Bool → Bool → Bool
 same true b = b

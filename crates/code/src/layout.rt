@@ -2,7 +2,7 @@
 ghost use mathlib.Core.Path.{_≡_};
 ghost use Prim.Native.Nat.{_≤_, _<_};
 ghost use Rattle.code.specs.Lawful.{allZero, argumentRange, ascending, placesLawful};
-ghost use Rattle.code.specs.Layout.{countByte, decode, layout, placeFields, placesOf, recordOf, targetOf};
+ghost use Rattle.code.specs.Layout.{countByte, decode, isRear, layout, placeFields, placesOf, recordOf, targetOf};
 ghost use Rattle.std.specs.Options.{Cases};
 ghost use Rattle.std.specs.declared.option.Option.the-variants.{Some};
 use crate::bytes::i32_at;
@@ -72,6 +72,15 @@ impl Target {
             return None;
         };
         Some(Target::At(places))
+    }
+
+    pub fn is_rear(&self) -> bool
+        ensures { λ r. ⌜ r ≡ isRear (now (self .entry)) ⌝ }
+    {
+        match self {
+            Target::Rear => true,
+            Target::At(_) => false,
+        }
     }
 
     // Byte 1 of the record.

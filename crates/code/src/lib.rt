@@ -1,9 +1,11 @@
 // Queue code: the 16-byte record, its layout, and the checker.
 mod bytes;
+mod check;
 mod layout;
 mod marks;
 mod places;
 mod record;
+mod records_of;
 mod target;
 mod walk;
 

@@ -9,6 +9,7 @@ mod ring;
 // The most places that a queue has.
 pub const MOST_PLACES: usize = 4096;
 
+#[derive(Drop)]
 pub struct Marks {
     slots: [bool; 4096],
     places: usize,

@@ -12,7 +12,7 @@ use records::Reason;
 use records::Refusal;
 
 // Whether the first n places are full.
-fn front_full(marks: &Marks, n: usize) -> bool
+pub fn front_full(marks: &Marks, n: usize) -> bool
     ensures { λ r. ⌜ r ≡ frontFull n (view (now (marks .entry))) ⌝ }
 {
     for k in 0..n {

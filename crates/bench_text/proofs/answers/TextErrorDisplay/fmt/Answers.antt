@@ -1,0 +1,4 @@
+use Rattle.bench_text.proofs.answers.TextErrorDisplay.fmt.Needs as need
+
+pub returns-in-Record : need.returns-in-Record
+returns-in-Record g c = simp (c .in-Line .is, c .in-Record .is) (c .write-in-Record .ensures .shows)

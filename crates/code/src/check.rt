@@ -1,0 +1,73 @@
+// The checker: says yes to sound code, or which rule it breaks first and at which record.
+ghost use mathlib.Core.Path.{_≡_};
+ghost use Rattle.code.specs.Marks.{justFront};
+ghost use Rattle.code.specs.Ring.{places as view};
+ghost use Rattle.code.specs.Verdict.{lawfulAt, stepAt, verdict, wellFormed};
+ghost use Rattle.records.specs.Refusals.{answer, told};
+use crate::marks::Marks;
+use crate::records_of::RECORD_BYTES;
+use crate::records_of::lawful_record;
+use crate::walk::front_full;
+use crate::walk::step_marks;
+use records::Reason;
+use records::Refusal;
+
+// The most records that a code has.
+pub const MOST_RECORDS: usize = 1024;
+
+// The most results that a code leaves.
+pub const MOST_RESULTS: usize = 16;
+
+// Length, result count, and each record's layout and kind.
+fn well_formed(code: &[u8], results: usize) -> Result<(), Refusal>
+    ensures { λ r. ⌜ answer r ≡ wellFormed (now (code .entry)) results ⌝ }
+{
+    let records = code.len() / RECORD_BYTES;
+    if code.len() % RECORD_BYTES != 0 || records > MOST_RECORDS {
+        return Err(Refusal { reason: Reason::CodeLength, place: 0 });
+    }
+    if results > MOST_RESULTS {
+        return Err(Refusal { reason: Reason::ResultList, place: 0 });
+    }
+    for index in 0..records {
+        if lawful_record(code, index).is_none() {
+            return Err(Refusal { reason: Reason::RecordMalformed, place: index });
+        }
+    }
+    Ok(())
+}
+
+// Record `index` of the code does its step on the marks.
+fn step_at(code: &[u8], index: usize, marks: &mut Marks) -> Result<(), Refusal>
+    ensures { λ r. ⌜ told r (view (now (marks .exit))) ≡ stepAt index (lawfulAt (now (code .entry)) index) (view (now (marks .entry))) ⌝ }
+{
+    let Some(found) = lawful_record(code, index) else {
+        return Err(Refusal { reason: Reason::RecordMalformed, place: index });
+    };
+    step_marks(marks, &found, index)
+}
+
+// Whether the first n places are full, and no others.
+fn just_front(marks: &Marks, n: usize) -> bool
+    ensures { λ r. ⌜ r ≡ justFront n (view (now (marks .entry))) ⌝ }
+{
+    front_full(marks, n) && marks.full_count() == n
+}
+
+// Whether the code, run from that many empty places, never takes from an empty or missing place, never puts on
+// a full or missing one, and ends with just that many results at the front.
+pub fn check(code: &[u8], places: usize, results: usize) -> Result<(), Refusal>
+    ensures { λ r. ⌜ answer r ≡ verdict (now (code .entry)) places results ⌝ }
+{
+    well_formed(code, results)?;
+    let records = code.len() / RECORD_BYTES;
+    let mut marks = Marks::empty(places);
+    for index in 0..records {
+        step_at(code, index, &mut marks)?;
+    }
+    if just_front(&marks, results) {
+        Ok(())
+    } else {
+        Err(Refusal { reason: Reason::NotJustResults, place: records })
+    }
+}
