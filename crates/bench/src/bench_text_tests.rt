@@ -44,15 +44,51 @@ fn is_refused(heap: Global, bad: Bad) -> Result<(), Fail> {
 #[test]
 fn good_texts_are_read(rt: LibcRuntime) -> Result<(), Fail> {
     let row: &[u8] = b"\x00\x01\x02\x03\x04\x05\x06\x07\x89\x9a\xab\xbc\xcd\xde\xef\xff";
-    let two: &[u8] = b"\x00\x01\x02\x03\x04\x05\x06\x07\x89\x9a\xab\xbc\xcd\xde\xef\xff0123456789abcdef";
+    let two: &[u8] =
+        b"\x00\x01\x02\x03\x04\x05\x06\x07\x89\x9a\xab\xbc\xcd\xde\xef\xff0123456789abcdef";
     let goods = [
-        Good { text: b"3 4\n", places: 3, results: 4, code: b"" },
-        Good { text: b"0 0", places: 0, results: 0, code: b"" },
-        Good { text: b"007 000\n", places: 7, results: 0, code: b"" },
-        Good { text: b"18446744073709551615 1", places: 18446744073709551615, results: 1, code: b"" },
-        Good { text: b"1 2\n0001020304050607899aabbccddeefff\n", places: 1, results: 2, code: row },
-        Good { text: b"1 2\n0001020304050607899aabbccddeefff", places: 1, results: 2, code: row },
-        Good { text: b"1 2\n0001020304050607899aabbccddeefff\n30313233343536373839616263646566\n", places: 1, results: 2, code: two },
+        Good {
+            text: b"3 4\n",
+            places: 3,
+            results: 4,
+            code: b"",
+        },
+        Good {
+            text: b"0 0",
+            places: 0,
+            results: 0,
+            code: b"",
+        },
+        Good {
+            text: b"007 000\n",
+            places: 7,
+            results: 0,
+            code: b"",
+        },
+        Good {
+            text: b"18446744073709551615 1",
+            places: 18446744073709551615,
+            results: 1,
+            code: b"",
+        },
+        Good {
+            text: b"1 2\n0001020304050607899aabbccddeefff\n",
+            places: 1,
+            results: 2,
+            code: row,
+        },
+        Good {
+            text: b"1 2\n0001020304050607899aabbccddeefff",
+            places: 1,
+            results: 2,
+            code: row,
+        },
+        Good {
+            text: b"1 2\n0001020304050607899aabbccddeefff\n30313233343536373839616263646566\n",
+            places: 1,
+            results: 2,
+            code: two,
+        },
     ];
     for good in goods {
         is_read(rt.alloc(), good)?;
@@ -79,7 +115,14 @@ fn bad_first_lines_are_refused(rt: LibcRuntime) -> Result<(), Fail> {
         b"0001020304050607899aabbccddeefff\n",
     ];
     for text in texts {
-        is_refused(rt.alloc(), Bad { text, number: 1, expected: Expected::Numbers })?;
+        is_refused(
+            rt.alloc(),
+            Bad {
+                text,
+                number: 1,
+                expected: Expected::Numbers,
+            },
+        )?;
     }
     Ok(())
 }
@@ -88,16 +131,56 @@ fn bad_first_lines_are_refused(rt: LibcRuntime) -> Result<(), Fail> {
 fn bad_records_are_refused(rt: LibcRuntime) -> Result<(), Fail> {
     let expected = Expected::Record;
     let bads = [
-        Bad { text: b"3 4\n\n", number: 2, expected },
-        Bad { text: b"3 4\n\n0001020304050607899aabbccddeefff\n", number: 2, expected },
-        Bad { text: b"3 4\n0001020304050607899aabbccddeefff\n\n", number: 3, expected },
-        Bad { text: b"3 4\n0001020304050607899aabbccddeeff\n", number: 2, expected },
-        Bad { text: b"3 4\n0001020304050607899aabbccddeefff0\n", number: 2, expected },
-        Bad { text: b"3 4\n0001020304050607899aabbccddeeffF\n", number: 2, expected },
-        Bad { text: b"3 4\n0001020304050607899aabbccddeefff\n0001020304050607899aabbccddeeffg", number: 3, expected },
-        Bad { text: b"3 4\n0001020304050607899aabbccddeefff\r\n", number: 2, expected },
-        Bad { text: b"3 4\n0001020304050607899aabbccddeefff \n", number: 2, expected },
-        Bad { text: b"3 4\n0001020304050607899aabbccddee\xc3\xa9\n", number: 2, expected },
+        Bad {
+            text: b"3 4\n\n",
+            number: 2,
+            expected,
+        },
+        Bad {
+            text: b"3 4\n\n0001020304050607899aabbccddeefff\n",
+            number: 2,
+            expected,
+        },
+        Bad {
+            text: b"3 4\n0001020304050607899aabbccddeefff\n\n",
+            number: 3,
+            expected,
+        },
+        Bad {
+            text: b"3 4\n0001020304050607899aabbccddeeff\n",
+            number: 2,
+            expected,
+        },
+        Bad {
+            text: b"3 4\n0001020304050607899aabbccddeefff0\n",
+            number: 2,
+            expected,
+        },
+        Bad {
+            text: b"3 4\n0001020304050607899aabbccddeeffF\n",
+            number: 2,
+            expected,
+        },
+        Bad {
+            text: b"3 4\n0001020304050607899aabbccddeefff\n0001020304050607899aabbccddeeffg",
+            number: 3,
+            expected,
+        },
+        Bad {
+            text: b"3 4\n0001020304050607899aabbccddeefff\r\n",
+            number: 2,
+            expected,
+        },
+        Bad {
+            text: b"3 4\n0001020304050607899aabbccddeefff \n",
+            number: 2,
+            expected,
+        },
+        Bad {
+            text: b"3 4\n0001020304050607899aabbccddee\xc3\xa9\n",
+            number: 2,
+            expected,
+        },
     ];
     for bad in bads {
         is_refused(rt.alloc(), bad)?;
@@ -108,9 +191,29 @@ fn bad_records_are_refused(rt: LibcRuntime) -> Result<(), Fail> {
 #[test]
 fn errors_are_printed(rt: LibcRuntime) -> Result<(), Fail> {
     let heap = rt.alloc();
-    let record = TextError::Line { number: 3, expected: Expected::Record };
+    let record = TextError::Line {
+        number: 3,
+        expected: Expected::Record,
+    };
     check(record.to_string(heap)?.as_str() == "line 3: expected 32 lower-case hex digits")?;
-    let numbers = TextError::Line { number: 1, expected: Expected::Numbers };
-    check(numbers.to_string(heap)?.as_str() == "line 1: expected the number of places and the number of results")?;
+    let numbers = TextError::Line {
+        number: 1,
+        expected: Expected::Numbers,
+    };
+    check(
+        numbers.to_string(heap)?.as_str()
+            == "line 1: expected the number of places and the number of results",
+    )?;
     check(TextError::NoMemory.to_string(heap)?.as_str() == "out of memory")
+}
+
+#[test]
+fn many_records_are_read(rt: LibcRuntime) -> Result<(), Fail> {
+    let heap = rt.alloc();
+    let mut text = b"2 3\n".to_vec(heap)?;
+    for _ in 0..1025 {
+        text.extend_from_slice(b"0001020304050607899aabbccddeefff\n")?;
+    }
+    let bench = read_bench(heap, text.as_slice())?;
+    check_eq(bench.code.len(), 16400)
 }

@@ -1,6 +1,6 @@
 -- A loop that looks for the first mark of a text.
 use mathlib.Core.List.{List, [], _∷_, _++_, append-nil, append-assoc}
-use mathlib.Core.Path.{_≡_, refl, sym, ap, _∙_}
+use mathlib.Core.Path.{_≡_, sym, ap, _∙_}
 use Prim.Native.Nat.{ℕ, _+_, _<_, _≤_}
 use lib.ListN.{length, getD, take, drop}
 use Rattle.std.proofs.shelf.Lists.{take-more, drop-more, take-all, drop-all}
@@ -27,4 +27,4 @@ module _ (mark : ℕ) (text : List ℕ) (i : ℕ) (so : Unmarked mark text i) wh
   pub nowhere : length text ≤ i → (text ≡ before mark text) × ([] ≡ after mark text)
   nowhere past =
       let none = drop-all i text past in
-      (sym (append-nil text ) ∙ ap (λ (x : List ℕ). x ++ []) (sym (take-all i text past)) ∙ ap (λ (x : List ℕ). take i text ++ x) (sym (ap (before mark) none)) ∙ so .0, sym (ap (after mark) none) ∙ so .1)
+      (sym (append-nil text) ∙ ap (λ (x : List ℕ). x ++ []) (sym (take-all i text past)) ∙ ap (λ (x : List ℕ). take i text ++ x) (sym (ap (before mark) none)) ∙ so .0, sym (ap (after mark) none) ∙ so .1)

@@ -1,6 +1,6 @@
 -- A text is read just where it spells what is read, and refused just at the first line that is not of the form.
 use mathlib.Core.List.{List, [], _∷_, _++_}
-use mathlib.Core.Logic.{_⊎_, inl, inr, ⊎-elim}
+use mathlib.Core.Logic.{⊎-elim}
 use mathlib.Core.Path.{_≡_, refl, sym, ap, subst, _∙_}
 use Prim.Native.Nat.{ℕ, _+_, _<_}
 use native.Mathlib.Omega.{arith}
@@ -20,11 +20,11 @@ use Rattle.bench_text.specs.Choice.{choose}
 use Rattle.bench_text.specs.Heading.{headerOf}
 use Rattle.bench_text.specs.Lines.{lines}
 use Rattle.bench_text.specs.Reading.{Reading, Bench, given, refused, recordsFrom, headed, linesRead, reading, benchOf, Says}
-use Rattle.bench_text.specs.Spelling.{SpellsRecord, SpellsNumbers, Spells, Meets, Formed, due, Refuses, Free, Ends, ended, Tells, Judges}
+use Rattle.bench_text.specs.Spelling.{SpellsRecord, Spells, Meets, Formed, due, Refuses, Free, Ends, ended, Tells, Judges}
 use Rattle.std.proofs.shelf.Lists.{nil-from-length}
 use Rattle.std.proofs.shelf.Tests.{cases-lt}
 use Rattle.bench_text.proofs.Choosing.{cases-option, clash}
-use Rattle.bench_text.proofs.Laying.{Whole, lines-laid, laid-lines, no-lines, all-free, Stands, stands, lines-stand}
+use Rattle.bench_text.proofs.Laying.{Whole, lines-laid, laid-lines, no-lines, all-free, stands, lines-stand}
 use Rattle.bench_text.proofs.Meeting.{header-spelt, header-read, numbers-whole, record-whole}
 use Rattle.bench_text.proofs.Rows.{records-spelt, records-read, records-refused, records-bad}
 
@@ -49,17 +49,17 @@ spelt-lines text b (l ∷ ls) split e =
     ⊎-elim
     (λ none. let step = at-header l ls None none in clash (cc))
     (λ some.
-        let parts = headed-given (some .0) (recordsFrom 2 [] ls) b (sym (at-header l ls (Some (some .0)) (some .1)) ∙ e) in
-        let spelt = records-spelt 2 [] ls (parts .0) (parts .1) in
-        subst (Spells text) (parts .2) (record {
-          top = l;
-          others = ls;
-          rows = spelt .0;
-          numbers = header-spelt l (some .0) (some .1);
-          records = spelt .1;
-          whole = spelt .2;
-          laid = laid-lines (l ∷ ls) text split;
-        }))
+    let parts = headed-given (some .0) (recordsFrom 2 [] ls) b (sym (at-header l ls (Some (some .0)) (some .1)) ∙ e) in
+    let spelt = records-spelt 2 [] ls (parts .0) (parts .1) in
+    subst (Spells text) (parts .2) (record {
+      top = l;
+      others = ls;
+      rows = spelt .0;
+      numbers = header-spelt l (some .0) (some .1);
+      records = spelt .1;
+      whole = spelt .2;
+      laid = laid-lines (l ∷ ls) text split;
+    }))
     (cases-option (headerOf l))
 
 pub spelt-if-read : (text : List ℕ) (b : Bench) → reading text ≡ given b → Spells text b
@@ -89,28 +89,28 @@ refused-lines text n want [] split e =
 refused-lines text n want (l ∷ ls) split e =
     ⊎-elim
     (λ none.
-        let step = at-header l ls None none in
-        let count : n ≡ 1 = cc in
-        let kind : want ≡ Numbers = cc in
-        let place = stands [] l ls text split in
-        record { front = []; line = l; rest = place .rest; laid = place .laid; there = λ _. place .there; single = place .single; ends = place .ends; counted = count; wanted = kind; good = tt; bad = subst (λ (x : Expected). Meets x l → ⊥) (sym kind) (no-numbers l none) })
+    let step = at-header l ls None none in
+    let count : n ≡ 1 = cc in
+    let kind : want ≡ Numbers = cc in
+    let place = stands [] l ls text split in
+    record { front = []; line = l; rest = place .rest; laid = place .laid; there = λ _. place .there; single = place .single; ends = place .ends; counted = count; wanted = kind; good = tt; bad = subst (λ (x : Expected). Meets x l → ⊥) (sym kind) (no-numbers l none) })
     (λ some.
-        let step = headed-refused (some .0) (recordsFrom 2 [] ls) n want (sym (at-header l ls (Some (some .0)) (some .1)) ∙ e) in
-        let fault = records-refused 2 [] ls n want step in
-        let place = stands (l ∷ fault .front) (fault .line) (fault .more) text (split ∙ ap (λ (x : List (List ℕ)). l ∷ x) (fault .split)) in
-        record {
-          front = l ∷ fault .front;
-          line = fault .line;
-          rest = place .rest;
-          laid = place .laid;
-          there = λ _. place .there;
-          single = place .single;
-          ends = place .ends;
-          counted = omega (arith, fault .counted);
-          wanted = fault .wanted;
-          good = ((some .0 .places, some .0 .results, header-spelt l (some .0) (some .1)), fault .good);
-          bad = subst (λ (x : Expected). Meets x (fault .line) → ⊥) (sym (fault .wanted)) (fault .bad);
-        })
+    let step = headed-refused (some .0) (recordsFrom 2 [] ls) n want (sym (at-header l ls (Some (some .0)) (some .1)) ∙ e) in
+    let fault = records-refused 2 [] ls n want step in
+    let place = stands (l ∷ fault .front) (fault .line) (fault .more) text (split ∙ ap (λ (x : List (List ℕ)). l ∷ x) (fault .split)) in
+    record {
+      front = l ∷ fault .front;
+      line = fault .line;
+      rest = place .rest;
+      laid = place .laid;
+      there = λ _. place .there;
+      single = place .single;
+      ends = place .ends;
+      counted = omega (arith, fault .counted);
+      wanted = fault .wanted;
+      good = ((some .0 .places, some .0 .results, header-spelt l (some .0) (some .1)), fault .good);
+      bad = subst (λ (x : Expected). Meets x (fault .line) → ⊥) (sym (fault .wanted)) (fault .bad);
+    })
     (cases-option (headerOf l))
 
 pub fault-if-refused : (text : List ℕ) (n : ℕ) (want : Expected) → reading text ≡ refused n want → Refuses text n want
@@ -124,8 +124,8 @@ refused-at : (text : List ℕ) (front : List (List ℕ)) (line rest : List ℕ) 
 refused-at text [] line rest laid there single ends good bad =
     ⊎-elim
     (λ some.
-        let split = lines-stand text [] line rest laid tt some single ends in
-        ap linesRead (split .1) ∙ ⊎-elim (λ none. at-header line (split .0) None none) (λ read. absurd (bad (read .0 .places, read .0 .results, header-spelt line (read .0) (read .1)))) (cases-option (headerOf line)))
+    let split = lines-stand text [] line rest laid tt some single ends in
+    ap linesRead (split .1) ∙ ⊎-elim (λ none. at-header line (split .0) None none) (λ read. absurd (bad (read .0 .places, read .0 .results, header-spelt line (read .0) (read .1)))) (cases-option (headerOf line)))
     (λ none. ap reading (laid ∙ nil-from-length (line ++ rest) (omega arith)))
     (cases-lt 0 (length (line ++ rest)))
 refused-at text (l ∷ front) line rest laid there single ends good bad =

@@ -75,11 +75,11 @@ laid-lines (l ∷ ls) text e =
     ⊎-elim
     (λ whole. let none : ls ≡ [] = sym (parts .2) ∙ ap lines (whole .1) in inr (ap (λ (x : List ℕ). x ++ (10 ∷ [])) (whole .0 ∙ sym first) ∙ ap (λ (x : List (List ℕ)). l ++ (10 ∷ ended x)) (sym none)))
     (λ split.
-        let same : text ≡ l ++ (10 ∷ after 10 text) = split ∙ ap (λ (x : List ℕ). x ++ (10 ∷ after 10 text)) (sym first) in
-        ⊎-elim
-        (λ rest. inl (same ∙ ap (λ (x : List ℕ). l ++ (10 ∷ x)) rest))
-        (λ rest. inr (ap (λ (x : List ℕ). x ++ (10 ∷ [])) same ∙ append-assoc l (10 ∷ after 10 text) (10 ∷ []) ∙ ap (λ (x : List ℕ). l ++ (10 ∷ x)) rest))
-        more)
+    let same : text ≡ l ++ (10 ∷ after 10 text) = split ∙ ap (λ (x : List ℕ). x ++ (10 ∷ after 10 text)) (sym first) in
+    ⊎-elim
+    (λ rest. inl (same ∙ ap (λ (x : List ℕ). l ++ (10 ∷ x)) rest))
+    (λ rest. inr (ap (λ (x : List ℕ). x ++ (10 ∷ [])) same ∙ append-assoc l (10 ∷ after 10 text) (10 ∷ []) ∙ ap (λ (x : List ℕ). l ++ (10 ∷ x)) rest))
+    more)
     (rejoined 10 text)
 
 -- where a line stands in a text, after the lines before it
@@ -96,8 +96,8 @@ stands [] line more text e =
     let first = parts .1 in
     let single = subst (Free 10) (sym first) (before-free 10 text) in
     let at : (rest : List ℕ) → text ≡ before 10 text ++ rest → Ends rest → Stands text [] line = λ rest same ends.
-        let laid : text ≡ line ++ rest = same ∙ ap (λ (x : List ℕ). x ++ rest) (sym first) in
-        record { rest = rest; laid = laid; there = subst (λ (x : List ℕ). 0 < length x) laid (parts .0); single = single; ends = ends } in
+    let laid : text ≡ line ++ rest = same ∙ ap (λ (x : List ℕ). x ++ rest) (sym first) in
+    record { rest = rest; laid = laid; there = subst (λ (x : List ℕ). 0 < length x) laid (parts .0); single = single; ends = ends } in
     ⊎-elim (λ whole. at [] (whole .0 ∙ sym (append-nil (before 10 text))) tt) (λ split. at (10 ∷ after 10 text) split refl) (rejoined 10 text)
 stands (l ∷ front) line more text e =
     let parts = opened text l (front ++ (line ∷ more)) e in

@@ -1,3 +1,4 @@
+-- The lemmas: on the loops, on what each part spells, and on the whole text.
 pub mod Choosing
 pub mod Cutting
 pub mod Hexing

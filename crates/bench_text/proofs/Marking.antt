@@ -22,8 +22,8 @@ rejoined mark [] = inl (refl, refl)
 rejoined mark (b ∷ bs) =
     let Goal : Bool → Type 0 = λ t. Rejoined mark (b ∷ bs) (cond t [] (b ∷ before mark bs)) (cond t bs (after mark bs)) in
     let way : (t : Bool) → (t ≡ true → b ≡ mark) → Goal t = λ t. elim t as (λ t. (t ≡ true → b ≡ mark) → Goal t) [
-      true ↦ λ same. inr (ap (λ (x : ℕ). x ∷ bs) (same refl))
-    | false ↦ λ same. ⊎-elim (λ h. inl (ap (λ (x : List ℕ). b ∷ x) (h .0), h .1)) (λ h. inr (ap (λ (x : List ℕ). b ∷ x) h)) (rejoined mark bs)
+      | true ↦ λ same. inr (ap (λ (x : ℕ). x ∷ bs) (same refl))
+      | false ↦ λ same. ⊎-elim (λ h. inl (ap (λ (x : List ℕ). b ∷ x) (h .0), h .1)) (λ h. inr (ap (λ (x : List ℕ). b ∷ x) h)) (rejoined mark bs)
     ] in
     way (eqb b mark) (eqb-true b mark)
 

@@ -1,17 +1,14 @@
 -- A line is read just where it is what is expected there.
 use mathlib.Core.Bool.{false}
 use mathlib.Core.List.{List, [], _∷_, _++_}
-use mathlib.Core.Logic.{_⊎_, inl, inr, ⊎-elim}
-use mathlib.Core.Path.{_≡_, refl, sym, ap, subst, _∙_}
+use mathlib.Core.Logic.{⊎-elim}
+use mathlib.Core.Path.{_≡_, sym, ap, subst, _∙_}
 use Prim.Native.Nat.{ℕ, _+_, _/_, _%_, _<_, _≤_}
 use native.Mathlib.Omega.{arith}
 use lib.ListN.{length, length-append}
 use Rattle.std.specs.Reads.{Digits}
-use Rattle.std.specs.Text.{In}
 use Rattle.std.specs.Written.{glyph}
-use Rattle.std.specs.declared.option.Option.{Option}
 use Rattle.std.specs.declared.option.Option.the-variants.{Some, None}
-use Rattle.std.specs.shelf.Lists.{All}
 use Rattle.std.proofs.shelf.Elements.{all-append}
 use Rattle.std.proofs.shelf.Numerals.{digit-from-value}
 use Rattle.std.proofs.shelf.Ways.{tells}
@@ -20,7 +17,7 @@ use Rattle.bench_text.specs.Choice.{choose}
 use Rattle.bench_text.specs.Cut.{before, after}
 use Rattle.bench_text.specs.Decimal.{decimalNumber}
 use Rattle.bench_text.specs.Heading.{headerOf}
-use Rattle.bench_text.specs.Spelling.{SpellsNumber, SpellsNumbers, SpellsRecord, hexOf, Free}
+use Rattle.bench_text.specs.Spelling.{SpellsNumbers, SpellsRecord, hexOf, Free}
 use Rattle.bench_text.proofs.Choosing.{chosen}
 use Rattle.bench_text.proofs.Laying.{Whole}
 use Rattle.bench_text.proofs.Marking.{rejoined, cut-marked}

@@ -28,8 +28,8 @@ records-spelt n code (l ∷ ls) all e =
     ⊎-elim
     (λ none. let step = at-record n code l ls None none in clash (cc))
     (λ some.
-        let more = records-spelt (n + 1) (code ++ some .0) ls all (sym (at-record n code l ls (Some (some .0)) (some .1)) ∙ e) in
-        (some .0 ∷ more .0, (record-spelt l (some .0) (some .1), more .1), sym (append-assoc code (some .0) (joined (λ row. row) (more .0))) ∙ more .2))
+    let more = records-spelt (n + 1) (code ++ some .0) ls all (sym (at-record n code l ls (Some (some .0)) (some .1)) ∙ e) in
+    (some .0 ∷ more .0, (record-spelt l (some .0) (some .1), more .1), sym (append-assoc code (some .0) (joined (λ row. row) (more .0))) ∙ more .2))
     (cases-option (hexRecord l))
 
 pub records-read : (n : ℕ) (code : List ℕ) (ls rows : List (List ℕ)) → Each SpellsRecord ls rows → recordsFrom n code ls ≡ given (code ++ joined (λ row. row) rows)
@@ -58,22 +58,22 @@ records-refused n code [] m want e = clash (cc)
 records-refused n code (l ∷ ls) m want e =
     ⊎-elim
     (λ none.
-        let step = at-record n code l ls None none in
-        let same : n ≡ m = cc in
-        let kind : want ≡ Record = cc in
-        record { front = []; line = l; more = ls; split = refl; good = tt; bad = unread l none; counted = omega arith; wanted = kind })
+    let step = at-record n code l ls None none in
+    let same : n ≡ m = cc in
+    let kind : want ≡ Record = cc in
+    record { front = []; line = l; more = ls; split = refl; good = tt; bad = unread l none; counted = omega arith; wanted = kind })
     (λ some.
-        let later = records-refused (n + 1) (code ++ some .0) ls m want (sym (at-record n code l ls (Some (some .0)) (some .1)) ∙ e) in
-        record {
-          front = l ∷ later .front;
-          line = later .line;
-          more = later .more;
-          split = ap (λ (x : List (List ℕ)). l ∷ x) (later .split);
-          good = ((some .0, record-spelt l (some .0) (some .1)), later .good);
-          bad = later .bad;
-          counted = omega (arith, later .counted);
-          wanted = later .wanted;
-        })
+    let later = records-refused (n + 1) (code ++ some .0) ls m want (sym (at-record n code l ls (Some (some .0)) (some .1)) ∙ e) in
+    record {
+      front = l ∷ later .front;
+      line = later .line;
+      more = later .more;
+      split = ap (λ (x : List (List ℕ)). l ∷ x) (later .split);
+      good = ((some .0, record-spelt l (some .0) (some .1)), later .good);
+      bad = later .bad;
+      counted = omega (arith, later .counted);
+      wanted = later .wanted;
+    })
     (cases-option (hexRecord l))
 
 pub records-bad : (n : ℕ) (code : List ℕ) (front : List (List ℕ)) (line : List ℕ) (more : List (List ℕ)) → All (Meets Record) front → (Meets Record line → ⊥) → recordsFrom n code (front ++ (line ∷ more)) ≡ refused (n + length front) Record

@@ -1,9 +1,8 @@
 -- A decimal number is read just where digits spell it.
 use mathlib.Core.List.{List, [], _∷_}
-use mathlib.Core.Path.{_≡_, refl, sym, ap, subst, _∙_}
+use mathlib.Core.Path.{_≡_, refl, ap, _∙_}
 use Prim.Native.Nat.{ℕ, _+_, _*_, _^_, _≤_, _<_}
 use native.Mathlib.Omega.{arith}
-use lib.ListN.{length}
 use Rattle.std.specs.Reads.{Digits, valueAfter}
 use Rattle.std.specs.Text.{digitValue}
 use Rattle.std.specs.declared.option.Option.{Option}

@@ -1,3 +1,4 @@
+-- What the contracts cite: how a text is read, what is printed, and which texts are of the form.
 pub mod Choice
 pub mod Cut
 pub mod Decimal

@@ -42,7 +42,10 @@ pub impl fmt::Display for TextError as TextErrorDisplay {
     fn fmt<W: fmt::Write>(&self, f: &mut fmt::Formatter<W>) -> fmt::Result {
         match self {
             TextError::Line { number, expected } => match expected {
-                Expected::Numbers => write!(f, "line {number}: expected the number of places and the number of results"),
+                Expected::Numbers => write!(
+                    f,
+                    "line {number}: expected the number of places and the number of results"
+                ),
                 Expected::Record => write!(f, "line {number}: expected 32 lower-case hex digits"),
             },
             TextError::NoMemory => write!(f, "out of memory"),

@@ -23,7 +23,10 @@ fn read_records(heap: Global, text: &[u8]) -> Result<Vec<u8>, TextError>
     while !rest.is_empty() {
         let (line, after) = cut(rest, b'\n');
         let Some(bytes) = code_record(line) else {
-            return Err(TextError::Line { number, expected: Expected::Record });
+            return Err(TextError::Line {
+                number,
+                expected: Expected::Record,
+            });
         };
         code.extend_from_slice(&bytes)?;
         rest = after;
@@ -37,10 +40,17 @@ fn read_lines(heap: Global, first: &[u8], rest: &[u8]) -> Result<BenchCode, Text
     ensures { λ r. ⌜ Says benchOf r (linesRead (now (first .entry) ∷ lines (now (rest .entry)))) ⌝ }
 {
     let Some(header) = read_header(first) else {
-        return Err(TextError::Line { number: 1, expected: Expected::Numbers });
+        return Err(TextError::Line {
+            number: 1,
+            expected: Expected::Numbers,
+        });
     };
     let code = read_records(heap, rest)?;
-    Ok(BenchCode { places: header.places, results: header.results, code })
+    Ok(BenchCode {
+        places: header.places,
+        results: header.results,
+        code,
+    })
 }
 
 // The code that `text` brings, or the first line that is not of the form.

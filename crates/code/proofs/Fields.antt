@@ -58,8 +58,8 @@ module _ (count : ℕ) (fields : List ℕ) (four : length fields ≡ 4) (small :
   lawful-not many = sym (past-sizes (and-left _ _ (lt-leb count 4 many)))
 
   -- as a function finds it that tests the two parts of the fields one after the other
-  pub lawful-told : count ≤ 4 → (zeros : Bool) → true ≡ ascending (take (count - 0) (drop 0 fields)) → zeros ≡ allZero (take (4 - count) (drop count fields)) → zeros ≡ placesLawful count fields
-  lawful-told few zeros up z =
+  pub lawful-tested : count ≤ 4 → (zeros : Bool) → true ≡ ascending (take (count - 0) (drop 0 fields)) → zeros ≡ allZero (take (4 - count) (drop count fields)) → zeros ≡ placesLawful count fields
+  lawful-tested few zeros up z =
       let same : count - 0 ≡ count = omega arith in
       let rest : take (4 - count) (drop count fields) ≡ drop count fields = take-all _ _ (omega (arith, length-drop count fields)) in
       z ∙ ap allZero rest ∙ sym (past (ascending (take count fields)) (ap (λ n. ascending (take n fields)) (sym same) ∙ sym up) refl) ∙ lawful-by-parts few

@@ -9,7 +9,7 @@ use lib.Dec.{ltb}
 use lib.ListN.{length, getD, set, take, length-set}
 use Rattle.code.proofs.RingViews.{count-pass, count-set, count-within, pass-on, pass-over, place-at, place-put, places-length, slot-within, slotOf}
 use Rattle.code.specs.Marks.{fullCount, pass, ringView}
-use Rattle.code.specs.Ring.{places as view}
+use Rattle.code.specs.Ring.{view}
 use Rattle.code.specs.declared.marks.Marks.{Marks}
 use Rattle.std.proofs.shelf.Tests.{cases-lt, cond-false, cond-true, le-ltb, lt-ltb}
 

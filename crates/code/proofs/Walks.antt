@@ -36,7 +36,7 @@ puts-first i k ks ms =
         [ true ↦ refl | false ↦ refl ]
     | false ↦ refl ]
 
--- the places from place j of the list on, where the one at j was put on as a call told
+-- the places from place j of the list on, where the one at j was put on as a call answered
 pub puts-at : (i j : ℕ) (ks : List ℕ) (ms : List Bool) (first : Answer (List Bool)) → j < length ks → first ≡ puts i (getD ks j 0 ∷ []) ms → puts i (drop j ks) ms ≡ ifGranted first (puts i (drop (j + 1) ks))
 puts-at i j ks ms first within is =
     ap (λ l. puts i l ms) (drop-more ks j 0 within) ∙ puts-first i (getD ks j 0) (drop (j + 1) ks) ms

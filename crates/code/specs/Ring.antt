@@ -5,5 +5,5 @@ use lib.ListN.{take}
 use Rattle.code.specs.Marks.{ringView}
 use Rattle.code.specs.declared.marks.Marks.{Marks}
 
-abbrev pub places : Marks → List Bool
-places m = ringView (m .front) (take (m .places) (m .slots))
+abbrev pub view : Marks → List Bool
+view m = ringView (m .front) (take (m .places) (m .slots))

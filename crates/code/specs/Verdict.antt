@@ -55,9 +55,9 @@ wellFormed code results =
 -- ---- the places, record by record
 
 -- the places that a record puts on, by the marks once its operands are passed
-abbrev pub aims : Target → List Bool → List ℕ
-aims Rear ms = fullCount ms ∷ []
-aims (At p) ms = take (p .count) (p .fields)
+abbrev pub placesPut : Target → List Bool → List ℕ
+placesPut Rear ms = fullCount ms ∷ []
+placesPut (At p) ms = take (p .count) (p .fields)
 
 -- record i puts on these places, one after another
 abbrev pub puts : ℕ → List ℕ → List Bool → Answer (List Bool)
@@ -69,7 +69,7 @@ puts i (k ∷ ks) ms =
 abbrev pub stepMarks : ℕ → Record → List Bool → Answer (List Bool)
 stepMarks i r ms =
     cond (frontFull (arity (r .operation)) ms)
-    (puts i (aims (r .target) (passes (arity (r .operation)) ms)) (passes (arity (r .operation)) ms))
+    (puts i (placesPut (r .target) (passes (arity (r .operation)) ms)) (passes (arity (r .operation)) ms))
     (refused 22 i 0)
 
 abbrev pub stepAt : ℕ → Option Record → List Bool → Answer (List Bool)

@@ -4,14 +4,14 @@ ghost use Prim.Native.Nat.{_+_, _<_};
 ghost use lib.ListN.{length};
 ghost use Rattle.code.specs.Bytes.{i32At, u16At};
 
-pub fn u16_at(bytes: &[u8], i: usize) -> u16
+pub(crate) fn u16_at(bytes: &[u8], i: usize) -> u16
     requires { ⌜ i + 1 < length (now bytes) ⌝ }
     ensures { λ r. ⌜ r ≡ u16At (now (bytes .entry)) i ⌝ }
 {
     u16::from_le_bytes([bytes[i], bytes[i + 1]])
 }
 
-pub fn i32_at(bytes: &[u8], i: usize) -> i32
+pub(crate) fn i32_at(bytes: &[u8], i: usize) -> i32
     requires { ⌜ i + 3 < length (now bytes) ⌝ }
     ensures { λ r. ⌜ r ≡ i32At (now (bytes .entry)) i ⌝ }
 {

@@ -10,7 +10,7 @@ mod ring;
 pub const MOST_PLACES: usize = 4096;
 
 #[derive(Drop)]
-pub struct Marks {
+pub(crate) struct Marks {
     slots: [bool; 4096],
     places: usize,
     front: usize,

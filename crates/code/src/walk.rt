@@ -2,9 +2,9 @@
 ghost use mathlib.Core.List.{[], _∷_};
 ghost use mathlib.Core.Path.{_≡_};
 ghost use Rattle.code.specs.Marks.{frontFull, passes};
-ghost use Rattle.code.specs.Ring.{places as view};
+ghost use Rattle.code.specs.Ring.{view};
 ghost use Rattle.code.specs.Verdict.{puts, stepMarks};
-ghost use Rattle.records.specs.Refusals.{told};
+ghost use Rattle.records.specs.Refusals.{outcome};
 use crate::marks::Marks;
 use crate::record::Record;
 use crate::target::Target;
@@ -12,7 +12,7 @@ use records::Reason;
 use records::Refusal;
 
 // Whether the first n places are full.
-pub fn front_full(marks: &Marks, n: usize) -> bool
+pub(crate) fn front_full(marks: &Marks, n: usize) -> bool
     ensures { λ r. ⌜ r ≡ frontFull n (view (now (marks .entry))) ⌝ }
 {
     for k in 0..n {
@@ -33,7 +33,7 @@ fn pass_all(marks: &mut Marks, n: usize)
 
 // Record `index` puts on place k.
 fn put_on(marks: &mut Marks, k: usize, index: usize) -> Result<(), Refusal>
-    ensures { λ r. ⌜ told r (view (now (marks .exit))) ≡ puts index (k ∷ []) (view (now (marks .entry))) ⌝ }
+    ensures { λ r. ⌜ outcome r (view (now (marks .exit))) ≡ puts index (k ∷ []) (view (now (marks .entry))) ⌝ }
 {
     if k >= marks.len() {
         return Err(Refusal { reason: Reason::PlaceMissing, place: index });
@@ -47,7 +47,7 @@ fn put_on(marks: &mut Marks, k: usize, index: usize) -> Result<(), Refusal>
 
 // Record `index` puts on these places, one after another.
 fn put_all(marks: &mut Marks, places: &[u16], index: usize) -> Result<(), Refusal>
-    ensures { λ r. ⌜ told r (view (now (marks .exit))) ≡ puts index (now (places .entry)) (view (now (marks .entry))) ⌝ }
+    ensures { λ r. ⌜ outcome r (view (now (marks .exit))) ≡ puts index (now (places .entry)) (view (now (marks .entry))) ⌝ }
 {
     for place in places {
         put_on(marks, *place as usize, index)?;
@@ -56,8 +56,8 @@ fn put_all(marks: &mut Marks, places: &[u16], index: usize) -> Result<(), Refusa
 }
 
 // Record `index` does its step on the marks.
-pub fn step_marks(marks: &mut Marks, record: &Record, index: usize) -> Result<(), Refusal>
-    ensures { λ r. ⌜ told r (view (now (marks .exit))) ≡ stepMarks index (now («record» .entry)) (view (now (marks .entry))) ⌝ }
+pub(crate) fn step_marks(marks: &mut Marks, record: &Record, index: usize) -> Result<(), Refusal>
+    ensures { λ r. ⌜ outcome r (view (now (marks .exit))) ≡ stepMarks index (now («record» .entry)) (view (now (marks .entry))) ⌝ }
 {
     let operands = record.operation.arity();
     if !front_full(marks, operands) {

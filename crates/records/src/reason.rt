@@ -1,6 +1,6 @@
 // Why a call is turned away: one case for each of the thirty refusals.
 ghost use mathlib.Core.Path.{_≡_};
-ghost use Rattle.records.specs.Refusals.{faultNumber, reasonNumber, said};
+ghost use Rattle.records.specs.Refusals.{faultNumber, reasonNumber, reasonNumbers};
 ghost use Rattle.std.specs.Orderings.{Decides};
 use crate::fault::Fault;
 use crate::fault::FaultDebug;
@@ -98,7 +98,7 @@ impl Reason {
 }
 
 pub impl PartialEq<Reason> for Reason as ReasonPartialEq {
-    ghost equals = { λ x y r. Decides r (said x ≡ said y) };
+    ghost equals = { λ x y r. Decides r (reasonNumbers x ≡ reasonNumbers y) };
 
     fn eq(&self, other: &Reason) -> bool {
         self.number() == other.number() && self.fault_number() == other.fault_number()

@@ -5,26 +5,26 @@ ghost use Prim.Native.Nat.{_+_, _-_, _<_, min};
 ghost use lib.Dec.{ltb};
 ghost use lib.ListN.{getD, length, replicate, set};
 ghost use Rattle.code.specs.Marks.{fullCount, pass};
-ghost use Rattle.code.specs.Ring.{places as view};
+ghost use Rattle.code.specs.Ring.{view};
 use super::Marks;
 use super::MOST_PLACES;
 
 impl Marks {
     // That many empty places, at most 4,096.
-    pub fn empty(places: usize) -> Marks
+    pub(crate) fn empty(places: usize) -> Marks
         ensures { λ r. ⌜ view r ≡ replicate (min places 4096) false ⌝ }
     {
         Marks { slots: [false; 4096], places: places.min(MOST_PLACES), front: 0, full: 0 }
     }
 
-    pub fn len(&self) -> usize
+    pub(crate) fn len(&self) -> usize
         ensures { λ r. ⌜ r ≡ length (view (now (self .entry))) ⌝ }
     {
         self.places
     }
 
     // How many places are full.
-    pub fn full_count(&self) -> usize
+    pub(crate) fn full_count(&self) -> usize
         ensures { λ r. ⌜ r ≡ fullCount (view (now (self .entry))) ⌝ }
     {
         self.full
@@ -40,7 +40,7 @@ impl Marks {
     }
 
     // Whether place k is there and full.
-    pub fn is_full(&self, k: usize) -> bool
+    pub(crate) fn is_full(&self, k: usize) -> bool
         ensures { λ r. ⌜ r ≡ getD (view (now (self .entry))) k false ⌝ }
     {
         if k >= self.places {
@@ -51,7 +51,7 @@ impl Marks {
     }
 
     // Marks the empty place k.
-    pub fn put(&mut self, k: usize)
+    pub(crate) fn put(&mut self, k: usize)
         requires within { ⌜ k < length (view (now self)) ⌝ }
         requires empty { ⌜ getD (view (now self)) k false ≡ false ⌝ }
         ensures { λ _. ⌜ view (now (self .exit)) ≡ set (view (now (self .entry))) k true ⌝ }
@@ -62,7 +62,7 @@ impl Marks {
     }
 
     // Drops place 0 and adds an empty place at the rear.
-    pub fn pass(&mut self)
+    pub(crate) fn pass(&mut self)
         ensures { λ _. ⌜ view (now (self .exit)) ≡ pass (view (now (self .entry))) ⌝ }
     {
         if self.places == 0 {

@@ -1,3 +1,4 @@
+-- What `cut` answers at the first mark, after a byte that is none, and at the end.
 use borrow.Author.Needs.{needs}
 use native.Mathlib.Omega.{arith}
 use mathlib.Core.Path.{_∙_}

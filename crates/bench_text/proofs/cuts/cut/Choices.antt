@@ -1,3 +1,4 @@
+-- The bytes that `cut` has passed hold no mark.
 use Rattle.bench_text.proofs.Cutting.{Unmarked}
 use Rattle.bench_text.proofs.cuts.cut.Given as given
 

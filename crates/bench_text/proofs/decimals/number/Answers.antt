@@ -1,3 +1,4 @@
+-- What `number` answers at a byte that is no digit, after a digit, and at the end.
 use mathlib.Core.Path.{_∙_, sym}
 use Rattle.std.proofs.shelf.Lists.{at-drop-all}
 use Rattle.bench_text.specs.Decimal.{decimalFrom}

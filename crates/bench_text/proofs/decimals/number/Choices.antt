@@ -1,3 +1,4 @@
+-- The digits that are left take the value so far to the number.
 use mathlib.Core.Path.{_≡_}
 use lib.ListN.{drop}
 use Rattle.bench_text.specs.Decimal.{decimalNumber, decimalFrom}

@@ -1,3 +1,4 @@
+-- What `code_record` answers at a line of another length, at two bytes that are no digits, after two digits, and at the end.
 use native.Mathlib.Omega.{arith}
 use mathlib.Core.Path.{_∙_, refl}
 use lib.ListN.{length-set}

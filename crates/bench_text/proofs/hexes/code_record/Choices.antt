@@ -1,3 +1,4 @@
+-- The bytes so far are what the digits so far spell.
 use mathlib.Core.Path.{_≡_}
 use lib.ListN.{length}
 use Rattle.bench_text.proofs.Recording.{Spelt}

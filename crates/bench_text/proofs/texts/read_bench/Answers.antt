@@ -1,3 +1,4 @@
+-- The first line and the rest of a text are its lines, and what is read of those judges the text.
 use mathlib.Core.Path.{subst}
 use Rattle.bench_text.specs.Reading.{Reading, Bench, Says, benchOf}
 use Rattle.bench_text.proofs.Judging.{judged}

@@ -1,5 +1,6 @@
+-- What `read_records` answers at a line that is no record, after a record, and at the end.
 use native.Mathlib.Omega.{arith}
-use mathlib.Core.Path.{_≡_, _∙_, ap, sym}
+use mathlib.Core.Path.{_∙_, ap, sym}
 use mathlib.Core.List.{List}
 use Prim.Native.Nat.{ℕ, _<_, _≤_, _+_}
 use lib.ListN.{length}
@@ -27,8 +28,8 @@ loop-rest-less c = omega (arith, less c)
 
 pub loop-rest-again : need.loop-rest-again
 loop-rest-again c = (
-    ap (λ (x : List ℕ). recordsFrom (c .loop-rest .number + 1) x (lines (c .cut .result .1 .now))) (c .in-Continue-extend-from-slice .ensures tt .items) ∙ one-record (c .loop-rest .number) (vec-items (c .loop-rest .code)) _ _ _ (more c) (c .cut .ensures .front) (c .cut .ensures .back) _ (c .in-Some .ensures tt) ∙ c .loop-rest .inv .0,
-    omega (arith, less c),
+  ap (λ (x : List ℕ). recordsFrom (c .loop-rest .number + 1) x (lines (c .cut .result .1 .now))) (c .in-Continue-extend-from-slice .ensures tt .items) ∙ one-record (c .loop-rest .number) (vec-items (c .loop-rest .code)) _ _ _ (more c) (c .cut .ensures .front) (c .cut .ensures .back) _ (c .in-Some .ensures tt) ∙ c .loop-rest .inv .0,
+  omega (arith, less c),
 )
 
 pub returns : need.returns

@@ -1,3 +1,4 @@
+-- The lines that are left take the code so far to all of it. A line has 32 bytes, so its number is small.
 use mathlib.Core.Path.{_≡_}
 use mathlib.Core.List.{[]}
 use Prim.Native.Nat.{_+_, _*_, _≤_}

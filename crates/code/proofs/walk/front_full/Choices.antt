@@ -1,7 +1,7 @@
 use mathlib.Core.Bool.{true}
 use mathlib.Core.Path.{_≡_}
 use Rattle.code.specs.Marks.{frontFull}
-use Rattle.code.specs.Ring.{places as view}
+use Rattle.code.specs.Ring.{view}
 use Rattle.code.proofs.walk.front_full.Given as given
 
 abbrev pub Inv-loop-k : given.InvT-loop-k

@@ -1,6 +1,6 @@
 use mathlib.Core.Path.{_≡_}
 use Rattle.code.specs.Marks.{passes}
-use Rattle.code.specs.Ring.{places as view}
+use Rattle.code.specs.Ring.{view}
 use Rattle.code.proofs.walk.pass_all.Given as given
 
 abbrev pub Inv-loop-passed : given.InvT-loop-passed

@@ -1,9 +1,9 @@
 use mathlib.Core.Path.{sym, ap, _∙_}
 use native.Mathlib.Omega.{arith}
 use Rattle.code.proofs.Walks.{puts-at}
-use Rattle.code.specs.Ring.{places as view}
+use Rattle.code.specs.Ring.{view}
 use Rattle.code.specs.Verdict.{puts}
-use Rattle.records.specs.Refusals.{told, turnedAway}
+use Rattle.records.specs.Refusals.{outcome, refusalAnswer}
 use Rattle.std.proofs.shelf.Lists.{at-drop-all}
 use Rattle.std.proofs.shelf.Results.{err-from-errBy}
 use Rattle.code.proofs.walk.put_all.Needs as need
@@ -11,7 +11,7 @@ use Rattle.code.proofs.walk.put_all.Needs as need
 pub returns-in-Break-put-on : need.returns-in-Break-put-on
 returns-in-Break-put-on c =
     let p = err-from-errBy (c .from-residual .result) (c .from-residual .ensures .1) in
-    ap (λ r. told r (view (c .put-on .last .marks))) (p .1) ∙ ap turnedAway (p .2)
+    ap (λ r. outcome r (view (c .put-on .last .marks))) (p .1) ∙ ap refusalAnswer (p .2)
     ∙ sym (puts-at (c .args .index) (c .loop-place .place-index) (c .args .places .now) (view (c .loop-place .marks)) _ (omega arith) (c .in-Break-put-on .ensures tt))
     ∙ c .loop-place .inv
 

@@ -1,6 +1,6 @@
 use mathlib.Core.Path.{_≡_}
 use lib.ListN.{drop}
-use Rattle.code.specs.Ring.{places as view}
+use Rattle.code.specs.Ring.{view}
 use Rattle.code.specs.Verdict.{puts}
 use Rattle.code.proofs.walk.put_all.Given as given
 

@@ -1,3 +1,4 @@
+-- What is written where a record was expected.
 use Rattle.bench_text.proofs.answers.TextErrorDisplay.fmt.Needs as need
 
 pub returns-in-Record : need.returns-in-Record

@@ -1,12 +1,12 @@
 // The checker: says yes to sound code, or which rule it breaks first and at which record.
 ghost use mathlib.Core.Path.{_≡_};
 ghost use Rattle.code.specs.Marks.{justFront};
-ghost use Rattle.code.specs.Ring.{places as view};
+ghost use Rattle.code.specs.Ring.{view};
 ghost use Rattle.code.specs.Verdict.{lawfulAt, stepAt, verdict, wellFormed};
-ghost use Rattle.records.specs.Refusals.{answer, told};
+ghost use Rattle.records.specs.Refusals.{answer, outcome};
 use crate::marks::Marks;
-use crate::records_of::RECORD_BYTES;
-use crate::records_of::lawful_record;
+use crate::sequence::RECORD_BYTES;
+use crate::sequence::lawful_record;
 use crate::walk::front_full;
 use crate::walk::step_marks;
 use records::Reason;
@@ -39,7 +39,7 @@ fn well_formed(code: &[u8], results: usize) -> Result<(), Refusal>
 
 // Record `index` of the code does its step on the marks.
 fn step_at(code: &[u8], index: usize, marks: &mut Marks) -> Result<(), Refusal>
-    ensures { λ r. ⌜ told r (view (now (marks .exit))) ≡ stepAt index (lawfulAt (now (code .entry)) index) (view (now (marks .entry))) ⌝ }
+    ensures { λ r. ⌜ outcome r (view (now (marks .exit))) ≡ stepAt index (lawfulAt (now (code .entry)) index) (view (now (marks .entry))) ⌝ }
 {
     let Some(found) = lawful_record(code, index) else {
         return Err(Refusal { reason: Reason::RecordMalformed, place: index });
@@ -57,7 +57,7 @@ fn just_front(marks: &Marks, n: usize) -> bool
 // Whether the code, run from that many empty places, never takes from an empty or missing place, never puts on
 // a full or missing one, and ends with just that many results at the front.
 pub fn check(code: &[u8], places: usize, results: usize) -> Result<(), Refusal>
-    ensures { λ r. ⌜ answer r ≡ verdict (now (code .entry)) places results ⌝ }
+    ensures is_the_verdict { λ r. ⌜ answer r ≡ verdict (now (code .entry)) places results ⌝ }
 {
     well_formed(code, results)?;
     let records = code.len() / RECORD_BYTES;

@@ -3,7 +3,7 @@ use native.Mathlib.Omega.{arith}
 use Rattle.code.proofs.Verdicts.{formed-by, lawful-so-far, unlawful-at}
 use Rattle.code.specs.Verdict.{allLawful, recordCount}
 use Rattle.std.specs.Options.{isSome}
-use Rattle.code.proofs.check.well_formed.Needs as need
+use Rattle.code.proofs.checker.well_formed.Needs as need
 
 pub returns-then-is-none : need.returns-then-is-none
 returns-then-is-none c =
