@@ -10,8 +10,8 @@ use Rattle.code.proofs.checker.check.Needs as need
 pub returns-in-Break-step-at : need.returns-in-Break-step-at
 returns-in-Break-step-at c =
     let p = err-from-errBy (c .from-residual-in-Break-step-at .result) (c .from-residual-in-Break-step-at .ensures .1) in
-    ap answer (p .1) ∙ ap refusalAnswer (p .2)
-    ∙ stopped-at (c .args .code .now) (c .args .places) (c .args .results) (c .loop-index .index) _ _ _ (view (c .loop-index .marks)) (c .in-Continue-well-formed .ensures tt) (omega arith) (c .loop-index .inv) (c .in-Break-step-at .ensures tt)
+    let stopped = stopped-at (c .args .code .now) (c .args .places) (c .args .results) (c .loop-index .index) _ _ _ (view (c .loop-index .marks)) (c .in-Continue-well-formed .ensures tt) (omega arith) (c .loop-index .inv) (c .in-Break-step-at .ensures tt) in
+    record { is-the-verdict = ap answer (p .1) ∙ ap refusalAnswer (p .2) ∙ stopped }
 
 pub loop-index-again : need.loop-index-again
 loop-index-again c =
