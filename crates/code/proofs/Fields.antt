@@ -8,7 +8,7 @@ use lib.Dec.{eqb, ltb}
 use lib.ListN.{length, getD, take, drop, length-drop}
 use Rattle.code.specs.Lawful.{allBelow, allZero, ascending, placesLawful}
 use Rattle.std.proofs.shelf.Lists.{at-drop-more, drop-more, take-all}
-use Rattle.std.proofs.shelf.Tests.{eq-eqb, ne-eqb, lt-ltb, le-ltb, le-leb, lt-leb, and-left, false≢true}
+use Rattle.std.proofs.shelf.Tests.{eq-eqb, ne-eqb, lt-ltb, le-leb, lt-leb, and-left, false≢true}
 
 module _ (xs : List ℕ) (i : ℕ) (within : i < length xs) where
   pub zeros-go-on : getD xs i 0 ≡ 0 → allZero (drop i xs) ≡ allZero (drop (i + 1) xs)
@@ -26,11 +26,11 @@ ascent-at xs i some within =
     ap ascending (first ∙ ap (λ l. getD xs (i - 1) 0 ∷ l) second) ∙ ap (λ l. ltb (getD xs (i - 1) 0) (getD xs i 0) && ascending l) (sym second)
 
 module _ (xs : List ℕ) (i : ℕ) (some : 1 ≤ i) (within : i < length xs) where
-  pub ascent-goes-on : getD xs (i - 1) 0 < getD xs i 0 → ascending (drop (i - 1) xs) ≡ ascending (drop i xs)
-  ascent-goes-on h = ascent-at xs i some within ∙ ap (λ b. b && ascending (drop i xs)) (lt-ltb _ _ h)
+  pub ascent-goes-on : true ≡ ltb (getD xs (i - 1) 0) (getD xs i 0) → ascending (drop (i - 1) xs) ≡ ascending (drop i xs)
+  ascent-goes-on h = ascent-at xs i some within ∙ ap (λ b. b && ascending (drop i xs)) (sym h)
 
-  pub ascent-ends : getD xs i 0 ≤ getD xs (i - 1) 0 → ascending (drop (i - 1) xs) ≡ false
-  ascent-ends h = ascent-at xs i some within ∙ ap (λ b. b && ascending (drop i xs)) (le-ltb _ _ h)
+  pub ascent-ends : false ≡ ltb (getD xs (i - 1) 0) (getD xs i 0) → ascending (drop (i - 1) xs) ≡ false
+  ascent-ends h = ascent-at xs i some within ∙ ap (λ b. b && ascending (drop i xs)) (sym h)
 
 pub ascent-short : (xs : List ℕ) → length xs ≤ 1 → ascending xs ≡ true
 ascent-short [] h = refl

@@ -1,6 +1,5 @@
 pub mod Fields
 pub mod Options
-pub mod RowBytes
 pub mod RoundTrip
 pub mod RingViews
 pub mod RingSteps

@@ -14,7 +14,6 @@ use lib.Signed.{mag, leZ}
 use mir.Syntax.{w32}
 use mir.Val.{SFits, ofZ, toZ}
 use Rattle.code.proofs.Options.{andThen-at, cond-at, mapped-at, provided-at, provided-some}
-use Rattle.code.proofs.RowBytes.{eight, four-fields, quarters}
 use Rattle.code.specs.Bytes.{byteAt, i32At, i32Bytes, u16At, u16Bytes}
 use Rattle.code.specs.Lawful.{allBelow, allZero, argumentRange, placesLawful, recordLawful}
 use Rattle.code.specs.Layout.{andThen, countByte, decode, fieldsAt, fieldsBytes, layout, placeFields, placesOf, provided, recordOf, targetOf}
@@ -98,6 +97,10 @@ field-fits Rear (suc (suc (suc zero))) = lit< tt
 field-fits Rear (suc (suc (suc (suc i)))) = lit< tt
 field-fits (At p) i = below-at 65536 (p .fields) i (lit< tt) (and-parts (allBelow 65536 (p .fields)) _ (and-parts (eqb (length (p .fields)) 4) _ (p .lawful) .1) .0)
 
+four-fields : (t : Target) → length (placeFields t) ≡ 4
+four-fields Rear = refl
+four-fields (At p) = eqb-true (length (p .fields)) 4 (and-parts (eqb (length (p .fields)) 4) _ (p .lawful) .0)
+
 -- ---- what is written reads back as itself
 
 target-back : (t : Target) → targetOf (countByte t) (placeFields t) ≡ Some t
@@ -128,8 +131,7 @@ reads-back r =
     let fields : (field 0 % 256 + field 0 / 256 % 256 * 256) ∷ (field 1 % 256 + field 1 / 256 % 256 * 256) ∷ (field 2 % 256 + field 2 / 256 % 256 * 256) ∷ (field 3 % 256 + field 3 / 256 % 256 * 256) ∷ [] ≡ fs =
         (λ i. same 0 i ∷ same 1 i ∷ same 2 i ∷ same 3 i ∷ []) ∙ four-of fs (four-fields t) in
     let argument = ap (toZ w32) (u32-of-bytes bits (ofZ-below (r .argument) (argument-fits r))) ∙ toZ-ofZ w32 (r .argument) (argument-fits r) in
-    ap (λ bs. decode (operationNumber (r .operation) ∷ countByte t ∷ (u16Bytes (r .node) ++ (i32Bytes (r .argument) ++ bs)))) (quarters fs (four-fields t))
-    ∙ (λ i. assembled (operation-of-number (r .operation) i) (targetOf (countByte t) (fields i)) (u16-of-bytes (r .node) (node-fits r) i) (argument i))
+    (λ i. assembled (operation-of-number (r .operation) i) (targetOf (countByte t) (fields i)) (u16-of-bytes (r .node) (node-fits r) i) (argument i))
     ∙ ap (λ u. assembled (Some (r .operation)) u (r .node) (r .argument)) (target-back t)
     ∙ sym (provided-some _ _ (r .lawful))
 
@@ -213,7 +215,7 @@ module _ (bs : List ℕ) (small : (i : ℕ) → getD bs i 0 < 256) where
       let row : ℕ → ℕ → List ℕ → List ℕ → List ℕ → List ℕ = λ o k ns zs fs. o ∷ k ∷ (ns ++ (zs ++ fs)) in
       ap layout (sym made)
       ∙ (λ i. row (number-of-operation (byteAt bs 0) (found .0) (found .1) i) (target .0 i) (pair 2 3 i) (argument-bytes i) (fieldsBytes (target .1 i)))
-      ∙ (λ i. row (byteAt bs 0) (byteAt bs 1) (getD bs 2 0 ∷ getD bs 3 0 ∷ []) (getD bs 4 0 ∷ getD bs 5 0 ∷ getD bs 6 0 ∷ getD bs 7 0 ∷ []) (pair 8 9 i ++ (pair 10 11 i ++ (pair 12 13 i ++ (pair 14 15 i ++ [])))))
+      ∙ (λ i. row (byteAt bs 0) (byteAt bs 1) (getD bs 2 0 ∷ getD bs 3 0 ∷ []) (getD bs 4 0 ∷ getD bs 5 0 ∷ getD bs 6 0 ∷ getD bs 7 0 ∷ []) (pair 8 9 i ++ (pair 10 11 i ++ (pair 12 13 i ++ pair 14 15 i))))
       ∙ items-are 0 16 bs long
 
   -- bytes read as the record of that layout, or no record has it

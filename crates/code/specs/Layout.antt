@@ -32,9 +32,9 @@ abbrev pub placeFields : Target → List ℕ
 placeFields Rear = 0 ∷ 0 ∷ 0 ∷ 0 ∷ []
 placeFields (At p) = p .fields
 
+-- four fields, two bytes each
 abbrev pub fieldsBytes : List ℕ → List ℕ
-fieldsBytes [] = []
-fieldsBytes (x ∷ xs) = u16Bytes x ++ fieldsBytes xs
+fieldsBytes fs = u16Bytes (getD fs 0 0) ++ (u16Bytes (getD fs 1 0) ++ (u16Bytes (getD fs 2 0) ++ u16Bytes (getD fs 3 0)))
 
 -- operation, number of places, node, argument, places
 abbrev pub layout : Record → List ℕ

@@ -2,7 +2,7 @@
 ghost use mathlib.Core.Path.{_≡_};
 ghost use Rattle.code.specs.Marks.{justFront};
 ghost use Rattle.code.specs.Ring.{view};
-ghost use Rattle.code.specs.Verdict.{lawfulAt, stepAt, verdict, wellFormed};
+ghost use Rattle.code.specs.Verdict.{allLawful, firstUnlawful, lawfulAt, recordCount, stepAt, verdict, wellFormed};
 ghost use Rattle.records.specs.Refusals.{answer, outcome};
 use crate::marks::Marks;
 use crate::sequence::RECORD_BYTES;
@@ -18,23 +18,29 @@ pub const MOST_RECORDS: usize = 1024;
 // The most results that a code leaves.
 pub const MOST_RESULTS: usize = 16;
 
-// Length, result count, and each record's layout and kind.
-fn well_formed(code: &[u8], results: usize) -> Result<(), Refusal>
-    ensures { λ r. ⌜ answer r ≡ wellFormed (now (code .entry)) results ⌝ }
+// Each record's layout and kind.
+fn all_lawful(code: &[u8]) -> Result<(), Refusal>
+    ensures { λ r. ⌜ answer r ≡ allLawful (firstUnlawful (now (code .entry)) (recordCount (now (code .entry)))) ⌝ }
 {
-    let records = code.len() / RECORD_BYTES;
-    if code.len() % RECORD_BYTES != 0 || records > MOST_RECORDS {
-        return Err(Refusal { reason: Reason::CodeLength, place: 0 });
-    }
-    if results > MOST_RESULTS {
-        return Err(Refusal { reason: Reason::ResultList, place: 0 });
-    }
-    for index in 0..records {
+    for index in 0..code.len() / RECORD_BYTES {
         if lawful_record(code, index).is_none() {
             return Err(Refusal { reason: Reason::RecordMalformed, place: index });
         }
     }
     Ok(())
+}
+
+// Length, result count, and each record's layout and kind.
+fn well_formed(code: &[u8], results: usize) -> Result<(), Refusal>
+    ensures { λ r. ⌜ answer r ≡ wellFormed (now (code .entry)) results ⌝ }
+{
+    if code.len() % RECORD_BYTES != 0 || code.len() / RECORD_BYTES > MOST_RECORDS {
+        return Err(Refusal { reason: Reason::CodeLength, place: 0 });
+    }
+    if results > MOST_RESULTS {
+        return Err(Refusal { reason: Reason::ResultList, place: 0 });
+    }
+    all_lawful(code)
 }
 
 // Record `index` of the code does its step on the marks.

@@ -1,6 +1,7 @@
 // The layout of a record in 16 bytes: making, reading and writing it.
 ghost use mathlib.Core.Path.{_≡_};
 ghost use Prim.Native.Nat.{_≤_, _<_};
+ghost use lib.Dec.{ltb};
 ghost use Rattle.code.specs.Lawful.{allZero, argumentRange, ascending, placesLawful};
 ghost use Rattle.code.specs.Layout.{countByte, decode, isRear, layout, placeFields, placesOf, recordOf, targetOf};
 ghost use Rattle.std.specs.Options.{Cases};
@@ -12,11 +13,18 @@ use crate::record::Record;
 use crate::target::Target;
 use records::Operation;
 
+// Whether one place may stand before the other.
+fn in_order(a: u16, b: u16) -> bool
+    ensures { λ r. ⌜ r ≡ ltb a b ⌝ }
+{
+    a < b
+}
+
 fn ascends(xs: &[u16]) -> bool
     ensures { λ r. ⌜ r ≡ ascending (now (xs .entry)) ⌝ }
 {
     for i in 1..xs.len() {
-        if xs[i - 1] >= xs[i] {
+        if !in_order(xs[i - 1], xs[i]) {
             return false;
         }
     }
@@ -158,6 +166,13 @@ impl Record {
     pub fn write(&self) -> [u8; 16]
         ensures value { λ r. ⌜ r ≡ layout (now (self .entry)) ⌝ }
         ensures reads_back { λ r. ⌜ decode r ≡ Some (now (self .entry)) ⌝ }
+    {
+        self.to_fields()
+    }
+
+    // Puts the fields in a row.
+    fn to_fields(&self) -> [u8; 16]
+        ensures { λ r. ⌜ r ≡ layout (now (self .entry)) ⌝ }
     {
         let [n0, n1] = self.node.to_le_bytes();
         let [a0, a1, a2, a3] = self.argument.to_le_bytes();

@@ -9,12 +9,19 @@ ghost use Rattle.code.specs.Ring.{view};
 use super::Marks;
 use super::MOST_PLACES;
 
+// More places than a queue has count as the most.
+fn at_most_all(places: usize) -> usize
+    ensures { λ r. ⌜ r ≡ min places 4096 ⌝ }
+{
+    places.min(MOST_PLACES)
+}
+
 impl Marks {
     // That many empty places, at most 4,096.
     pub(crate) fn empty(places: usize) -> Marks
         ensures { λ r. ⌜ view r ≡ replicate (min places 4096) false ⌝ }
     {
-        Marks { slots: [false; 4096], places: places.min(MOST_PLACES), front: 0, full: 0 }
+        Marks { slots: [false; 4096], places: at_most_all(places), front: 0, full: 0 }
     }
 
     pub(crate) fn len(&self) -> usize

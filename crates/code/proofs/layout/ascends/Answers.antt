@@ -6,14 +6,14 @@ use Rattle.code.specs.Lawful.{ascending}
 use Rattle.code.proofs.Fields.{ascent-goes-on, ascent-ends, ascent-short}
 use Rattle.code.proofs.layout.ascends.Needs as need
 
-pub returns-then-xs-i : need.returns-then-xs-i
-returns-then-xs-i c =
-    sym (ascent-ends (c .args .xs .now) (c .loop-i .i) (omega arith) (omega arith) (c .if-xs-i .taken)) ∙ c .loop-i .inv
+pub returns-then-not-in-order : need.returns-then-not-in-order
+returns-then-not-in-order c =
+    sym (ascent-ends (c .args .xs .now) (c .loop-i .i) (omega arith) (omega arith) (c .if-not-in-order .ensures tt)) ∙ c .loop-i .inv
 
 pub loop-i-again : need.loop-i-again
 loop-i-again c =
     let next : c .loop-i .i + 1 - 1 ≡ c .loop-i .i = omega arith in
-    ap (λ k. ascending (drop k (c .args .xs .now))) next ∙ sym (ascent-goes-on (c .args .xs .now) (c .loop-i .i) (omega arith) (omega arith) (c .if-xs-i .left)) ∙ c .loop-i .inv
+    ap (λ k. ascending (drop k (c .args .xs .now))) next ∙ sym (ascent-goes-on (c .args .xs .now) (c .loop-i .i) (omega arith) (omega arith) (c .if-not-in-order .ensures tt)) ∙ c .loop-i .inv
 
 pub returns : need.returns
 returns c =

@@ -12,7 +12,7 @@ pub returns-in-Break-put-on : need.returns-in-Break-put-on
 returns-in-Break-put-on c =
     let p = err-from-errBy (c .from-residual .result) (c .from-residual .ensures .1) in
     ap (λ r. outcome r (view (c .put-on .last .marks))) (p .1) ∙ ap refusalAnswer (p .2)
-    ∙ sym (puts-at (c .args .index) (c .loop-place .place-index) (c .args .places .now) (view (c .loop-place .marks)) _ (omega arith) (c .in-Break-put-on .ensures tt))
+    ∙ sym (puts-at (c .args .index) (c .loop-place .place-index) (c .args .places .now) (view (c .loop-place .marks)) (refusalAnswer (c .in-Break-put-on .field-0 .0)) (omega arith) (c .in-Break-put-on .ensures tt))
     ∙ c .loop-place .inv
 
 pub loop-place-again : need.loop-place-again

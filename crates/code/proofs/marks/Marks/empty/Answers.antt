@@ -7,8 +7,8 @@ use Rattle.code.proofs.marks.Marks.empty.Needs as need
 
 pub ghost-result : need.ghost-result
 ghost-result c =
-    (omega (arith, c .min .ensures), (omega arith, (refl, (empty-count 4096 (c .min .result) (omega (arith, c .min .ensures)), tt))))
+    (omega (arith, c .at-most-all .ensures), (omega arith, (refl, (empty-count 4096 (c .at-most-all .result) (omega (arith, c .at-most-all .ensures)), tt))))
 
 pub returns : need.returns
 returns c =
-    empty-view 4096 (c .min .result) (omega (arith, c .min .ensures)) ∙ ap (λ n. replicate n false) (c .min .ensures)
+    empty-view 4096 (c .at-most-all .result) (omega (arith, c .at-most-all .ensures)) ∙ ap (λ n. replicate n false) (c .at-most-all .ensures)
