@@ -8,6 +8,7 @@ pub mod Lining
 pub mod Marking
 pub mod Meeting
 pub mod Numbering
+pub mod Placing
 pub mod Recording
 pub mod Rows
 pub mod Valuing

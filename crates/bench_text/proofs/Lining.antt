@@ -10,9 +10,11 @@ use lib.ListN.{length}
 use Rattle.std.specs.declared.option.Option.{Option}
 use Rattle.std.specs.declared.option.Option.the-variants.{Some, None}
 use Rattle.std.proofs.shelf.Tests.{cases-bool, eqb-true, cond-false}
-use Rattle.bench_text.specs.declared.answers.Expected.the-variants.{Record}
+use Rattle.bench_text.specs.declared.answers.Expected.the-variants.{Numbers, Record}
+use Rattle.bench_text.specs.declared.headings.Header.{Header}
 use Rattle.bench_text.specs.Choice.{choose}
 use Rattle.bench_text.specs.Cut.{before, after}
+use Rattle.bench_text.specs.Heading.{headerOf}
 use Rattle.bench_text.specs.Hex.{hexBytes, hexRecord}
 use Rattle.bench_text.specs.Lines.{begun, lines}
 use Rattle.bench_text.specs.Reading.{refused, recordsFrom, linesRead, reading}
@@ -42,24 +44,30 @@ pub record-length : (line bytes : List ℕ) → Some bytes ≡ hexRecord line �
 record-length line bytes e =
     ⊎-elim (λ long. eqb-true (length line) 32 long) (λ other. let none = cond-false (eqb (length line) 32) (hexBytes line) None other in clash (cc)) (cases-bool (eqb (length line) 32))
 
-module _ (n : ℕ) (code rest line later : List ℕ) (some : 0 < length rest) (front : line ≡ before 10 rest) (back : later ≡ after 10 rest) where
-  step : (o : Option (List ℕ)) → o ≡ hexRecord line → choose o (refused n Record) (λ bytes. recordsFrom (n + 1) (code ++ bytes) (lines later)) ≡ recordsFrom n code (lines rest)
-  step o e =
-      ap (λ (x : Option (List ℕ)). choose x (refused n Record) (λ bytes. recordsFrom (n + 1) (code ++ bytes) (lines later))) e ∙ sym (ap (recordsFrom n code) (lines-step rest some ∙ (λ i. sym front i ∷ lines (sym back i))))
+-- a record has 32 digits
+pub shorter : (rest line later bytes : List ℕ) → line ≡ before 10 rest → later ≡ after 10 rest → Some bytes ≡ hexRecord line → 32 + length later ≤ length rest
+shorter rest line later bytes front back e = omega (arith, record-length line bytes e, parts-fit 10 rest, ap length front, ap length back)
 
-  pub no-record : None ≡ hexRecord line → refused n Record ≡ recordsFrom n code (lines rest)
+module _ (h : Header) (n : ℕ) (code rest line later : List ℕ) (some : 0 < length rest) (front : line ≡ before 10 rest) (back : later ≡ after 10 rest) where
+  step : (o : Option (List ℕ)) → o ≡ hexRecord line → choose o (refused (n + 2) Record code) (λ bytes. recordsFrom h (n + 1) (code ++ bytes) (lines later)) ≡ recordsFrom h n code (lines rest)
+  step o e =
+      ap (λ (x : Option (List ℕ)). choose x (refused (n + 2) Record code) (λ bytes. recordsFrom h (n + 1) (code ++ bytes) (lines later))) e ∙ sym (ap (recordsFrom h n code) (lines-step rest some ∙ (λ i. sym front i ∷ lines (sym back i))))
+
+  pub no-record : None ≡ hexRecord line → refused (n + 2) Record code ≡ recordsFrom h n code (lines rest)
   no-record e = step None e
 
-  pub one-record : (bytes : List ℕ) → Some bytes ≡ hexRecord line → recordsFrom (n + 1) (code ++ bytes) (lines later) ≡ recordsFrom n code (lines rest)
+  pub one-record : (bytes : List ℕ) → Some bytes ≡ hexRecord line → recordsFrom h (n + 1) (code ++ bytes) (lines later) ≡ recordsFrom h n code (lines rest)
   one-record bytes e = step (Some bytes) e
 
-  pub shorter : (bytes : List ℕ) → Some bytes ≡ hexRecord line → 32 + length later ≤ length rest
-  shorter bytes e = omega (arith, record-length line bytes e, parts-fit 10 rest, ap length front, ap length back)
+-- the first line, as it was read
+pub at-header : (l : List ℕ) (ls : List (List ℕ)) (o : Option Header) → headerOf l ≡ o → linesRead (l ∷ ls) ≡ choose o (refused 1 Numbers []) (λ h. recordsFrom h 0 [] ls)
+at-header l ls o e = ap (λ (x : Option Header). choose x (refused 1 Numbers []) (λ h. recordsFrom h 0 [] ls)) e
 
 -- an empty text is refused as a text with an empty first line is
-split : (text : List ℕ) → linesRead (before 10 text ∷ lines (after 10 text)) ≡ reading text
+split : (text : List ℕ) → reading text ≡ linesRead (before 10 text ∷ lines (after 10 text))
 split [] = refl
-split (b ∷ bs) = sym (ap linesRead (lines-step (b ∷ bs) (omega arith)))
+split (b ∷ bs) = ap linesRead (lines-step (b ∷ bs) (omega arith))
 
-pub whole-text : (text first rest : List ℕ) → first ≡ before 10 text → rest ≡ after 10 text → linesRead (first ∷ lines rest) ≡ reading text
-whole-text text first rest front back = (λ i. linesRead (front i ∷ lines (back i))) ∙ split text
+-- a text by its first line and by what stands after it
+pub whole-text : (text first rest : List ℕ) → first ≡ before 10 text → rest ≡ after 10 text → (o : Option Header) → o ≡ headerOf first → reading text ≡ choose o (refused 1 Numbers []) (λ h. recordsFrom h 0 [] (lines rest))
+whole-text text first rest front back o e = split text ∙ (λ i. linesRead (sym front i ∷ lines (sym back i))) ∙ at-header first (lines rest) o (sym e)

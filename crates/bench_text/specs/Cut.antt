@@ -4,6 +4,7 @@ use mathlib.Core.List.{List, [], _∷_}
 use Prim.Native.Nat.{ℕ}
 use lib.Dec.{eqb}
 
+-- all of it, where there is no mark
 abbrev pub before : ℕ → List ℕ → List ℕ
 before mark [] = []
 before mark (b ∷ bs) = cond (eqb b mark) [] (b ∷ before mark bs)

@@ -11,6 +11,7 @@ use Rattle.bench_text.specs.Choice.{choose}
 abbrev pub decimalMore : ℕ → ℕ → Option ℕ
 decimalMore n b = cond (leb 48 b && leb b 57 && ltb (n * 10 + (b - 48)) (2 ^ 64)) (Some (n * 10 + (b - 48))) None
 
+-- what n becomes with all of these digits
 abbrev pub decimalFrom : ℕ → List ℕ → Option ℕ
 decimalFrom n [] = Some n
 decimalFrom n (b ∷ bs) = choose (decimalMore n b) None (λ m. decimalFrom m bs)

@@ -8,6 +8,7 @@ use Rattle.std.specs.declared.option.Option.{Option}
 use Rattle.std.specs.declared.option.Option.the-variants.{Some, None}
 use Rattle.bench_text.specs.Choice.{choose}
 
+-- the value of a digit, 0 to 9 or a to f
 abbrev pub hexDigit : ℕ → Option ℕ
 hexDigit b = cond (leb 48 b && leb b 57) (Some (b - 48)) (cond (leb 97 b && leb b 102) (Some (b - 97 + 10)) None)
 

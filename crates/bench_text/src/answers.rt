@@ -1,17 +1,14 @@
-// What a reader of bench texts answers: the code that a text brings, or what is wrong with the text.
-ghost use mathlib.Core.Path.{_≡_};
+// What a reader of bench texts answers: the counts of a text, or what is wrong with the text or the buffer.
 ghost use Rattle.std.specs.declared.option.Option.the-variants.{Some};
-ghost use Rattle.bench_text.specs.declared.answers.TextError.the-variants.{NoMemory};
 ghost use Rattle.bench_text.specs.Message.{message};
-use std::alloc::AllocError;
 use std::fmt;
 
-// Queue code, and the numbers of places and of results that it is judged by.
-#[derive(Debug, Drop, PartialEq)]
-pub struct BenchCode {
+// The numbers of places and of results that queue code is judged by, and the number of its records.
+#[derive(Clone, Copy, Debug, PartialEq)]
+pub struct BenchCounts {
     pub places: usize,
     pub results: usize,
-    pub code: Vec<u8>,
+    pub records: usize,
 }
 
 // What a line has to be: the two numbers, or a code record.
@@ -21,19 +18,11 @@ pub enum Expected {
     Record,
 }
 
-// The first line that is not of the form, counted from 1, or want of memory.
+// The first line that is not of the form, counted from 1, or a buffer that the code may not fit into.
 #[derive(Clone, Copy, Debug, PartialEq)]
 pub enum TextError {
     Line { number: usize, expected: Expected },
-    NoMemory,
-}
-
-pub impl From<AllocError> for TextError as TextErrorFromAlloc {
-    ghost converts = { λ _ r. r ≡ NoMemory };
-
-    fn from(_e: AllocError) -> TextError {
-        TextError::NoMemory
-    }
+    BufferTooShort,
 }
 
 pub impl fmt::Display for TextError as TextErrorDisplay {
@@ -48,7 +37,9 @@ pub impl fmt::Display for TextError as TextErrorDisplay {
                 ),
                 Expected::Record => write!(f, "line {number}: expected 32 lower-case hex digits"),
             },
-            TextError::NoMemory => write!(f, "out of memory"),
+            TextError::BufferTooShort => {
+                write!(f, "the code buffer is shorter than half of the text")
+            }
         }
     }
 }

@@ -3,7 +3,7 @@ ghost use mathlib.Core.Path.{_≡_};
 ghost use Rattle.bench_text.specs.Cut.{before, after};
 
 // What stands before the first `mark` of `text` and what after it; nothing stands after a mark that is not there.
-pub fn cut(text: &[u8], mark: u8) -> (&[u8], &[u8])
+pub(crate) fn cut(text: &[u8], mark: u8) -> (&[u8], &[u8])
     ensures front { λ r. ⌜ now (r .0) ≡ before mark (now (text .entry)) ⌝ }
     ensures back { λ r. ⌜ now (r .1) ≡ after mark (now (text .entry)) ⌝ }
 {

@@ -13,7 +13,7 @@ fn one_more_digit(value: usize, byte: u8) -> Option<usize>
 }
 
 // The number that `digits` spell: one digit or more, and a value below 2^64.
-pub fn number(digits: &[u8]) -> Option<usize>
+pub(crate) fn number(digits: &[u8]) -> Option<usize>
     ensures { λ r. ⌜ r ≡ decimalNumber (now (digits .entry)) ⌝ }
 {
     if digits.is_empty() {

@@ -5,13 +5,13 @@ use crate::cuts::cut;
 use crate::decimals::number;
 
 #[derive(Clone, Copy)]
-pub struct Header {
+pub(crate) struct Header {
     pub places: usize,
     pub results: usize,
 }
 
 // The two numbers, with one space between them.
-pub fn read_header(line: &[u8]) -> Option<Header>
+pub(crate) fn read_header(line: &[u8]) -> Option<Header>
     ensures { λ r. ⌜ r ≡ headerOf (now (line .entry)) ⌝ }
 {
     let (first, second) = cut(line, b' ');

@@ -23,7 +23,7 @@ fn byte(first: u8, second: u8) -> Option<u8>
 }
 
 // The 16 bytes that the 32 digits of a line spell.
-pub fn code_record(line: &[u8]) -> Option<[u8; 16]>
+pub(crate) fn code_record(line: &[u8]) -> Option<[u8; 16]>
     ensures { λ r. ⌜ r ≡ hexRecord (now (line .entry)) ⌝ }
 {
     if line.len() != 32 {

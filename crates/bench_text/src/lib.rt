@@ -6,9 +6,9 @@ mod headings;
 mod hexes;
 mod texts;
 
-pub use answers::BenchCode;
-pub use answers::BenchCodeDebug;
-pub use answers::BenchCodePartialEq;
+pub use answers::BenchCounts;
+pub use answers::BenchCountsDebug;
+pub use answers::BenchCountsPartialEq;
 pub use answers::Expected;
 pub use answers::ExpectedDebug;
 pub use answers::ExpectedPartialEq;

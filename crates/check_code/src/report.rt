@@ -41,9 +41,18 @@ pub impl fmt::Display for Report as ReportDisplay {
     fn fmt<W: fmt::Write>(&self, f: &mut fmt::Formatter<W>) -> fmt::Result {
         match self.verdict {
             Ok(()) => {
-                let records = Count { number: self.records, noun: "record" };
-                let places = Count { number: self.places, noun: "place" };
-                let results = Count { number: self.results, noun: "result" };
+                let records = Count {
+                    number: self.records,
+                    noun: "record",
+                };
+                let places = Count {
+                    number: self.places,
+                    noun: "place",
+                };
+                let results = Count {
+                    number: self.results,
+                    noun: "result",
+                };
                 write!(f, "passes: {records}, {places}, {results}")
             }
             Err(refusal) => write!(f, "{refusal}"),

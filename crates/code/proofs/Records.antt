@@ -24,10 +24,10 @@ pub record-cut : (code : List ℕ) (i start size : ℕ) → start ≡ min (16 * 
 record-cut code i start size from long =
     let same : start + size - start ≡ min 16 (length (drop start code)) = omega (arith, from, long, length-drop start code) in
     let begin : drop start code ≡ drop (16 * i) code =
-        ⊎-elim
-        (λ past. drop-all start code (omega (arith, from)) ∙ sym (drop-all (16 * i) code (omega arith)))
-        (λ within. let at : start ≡ 16 * i = omega (arith, from) in ap (λ k. drop k code) at)
-        (cases-lt (length code) (16 * i)) in
+    ⊎-elim
+    (λ past. drop-all start code (omega (arith, from)) ∙ sym (drop-all (16 * i) code (omega arith)))
+    (λ within. let at : start ≡ 16 * i = omega (arith, from) in ap (λ k. drop k code) at)
+    (cases-lt (length code) (16 * i)) in
     ap (λ k. take k (drop start code)) same ∙ take-there 16 (drop start code) ∙ ap (take 16) begin
 
 pub simple-short : (code : List ℕ) → length code < 2 → false ≡ isSimple code

@@ -46,11 +46,11 @@ module _ (m : Marks) where
     pass-is =
         ⊎-elim
         (λ on.
-            ap (λ f. ringView f (take (m .places) (set (m .slots) (m .front) false))) (is ∙ cond-true _ _ _ (lt-ltb _ _ on))
-            ∙ pass-on (m .places) (m .front) (m .slots) enough (m .«front_within») on)
+        ap (λ f. ringView f (take (m .places) (set (m .slots) (m .front) false))) (is ∙ cond-true _ _ _ (lt-ltb _ _ on))
+        ∙ pass-on (m .places) (m .front) (m .slots) enough (m .«front_within») on)
         (λ over.
-            ap (λ f. ringView f (take (m .places) (set (m .slots) (m .front) false))) (is ∙ cond-false _ _ _ (le-ltb _ _ over))
-            ∙ pass-over (m .places) (m .front) (m .slots) enough (m .«front_within») (omega (arith, some, m .«front_within»)))
+        ap (λ f. ringView f (take (m .places) (set (m .slots) (m .front) false))) (is ∙ cond-false _ _ _ (le-ltb _ _ over))
+        ∙ pass-over (m .places) (m .front) (m .slots) enough (m .«front_within») (omega (arith, some, m .«front_within»)))
         (cases-lt (m .front + 1) (m .places))
 
     pub next-within : next < max (m .places) 1

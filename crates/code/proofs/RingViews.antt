@@ -109,9 +109,9 @@ module _ (P f : ℕ) (slots : List Bool) (few : P ≤ length slots) (within : f 
       ⊎-elim
       (λ before. view-before f xs inside k false (omega (arith, xs-long)) ∙ getD-take P slots (f + k) false before ∙ ap (λ j. getD slots j false) (sym (cond-true _ _ _ (lt-ltb (f + k) P before))))
       (λ after.
-          let n : f + k - length xs ≡ f + k - P = ap (λ p. f + k - p) xs-long in
-          view-after f xs inside k false (omega (arith, xs-long)) (omega (arith, xs-long)) ∙ ap (λ j. getD xs j false) n
-          ∙ getD-take P slots (f + k - P) false (omega arith) ∙ ap (λ j. getD slots j false) (sym (cond-false _ _ _ (le-ltb (f + k) P after))))
+      let n : f + k - length xs ≡ f + k - P = ap (λ p. f + k - p) xs-long in
+      view-after f xs inside k false (omega (arith, xs-long)) (omega (arith, xs-long)) ∙ ap (λ j. getD xs j false) n
+      ∙ getD-take P slots (f + k - P) false (omega arith) ∙ ap (λ j. getD slots j false) (sym (cond-false _ _ _ (le-ltb (f + k) P after))))
       (cases-lt (f + k) P)
 
   pub place-put : (k : ℕ) → k < P → ringView f (take P (set slots (slotOf k) true)) ≡ set (ringView f (take P slots)) k true
@@ -119,12 +119,12 @@ module _ (P f : ℕ) (slots : List Bool) (few : P ≤ length slots) (within : f 
   place-put k h =
       ⊎-elim
       (λ before.
-          ap (λ j. ringView f (take P (set slots j true))) (cond-true _ _ _ (lt-ltb (f + k) P before)) ∙ ap (ringView f) (take-set-lt P slots (f + k) true before)
-          ∙ set-before f xs inside k true (omega (arith, xs-long)))
+      ap (λ j. ringView f (take P (set slots j true))) (cond-true _ _ _ (lt-ltb (f + k) P before)) ∙ ap (ringView f) (take-set-lt P slots (f + k) true before)
+      ∙ set-before f xs inside k true (omega (arith, xs-long)))
       (λ after.
-          let n : f + k - P ≡ f + k - length xs = ap (λ p. f + k - p) (sym xs-long) in
-          ap (λ j. ringView f (take P (set slots j true))) (cond-false _ _ _ (le-ltb (f + k) P after)) ∙ ap (ringView f) (take-set-lt P slots (f + k - P) true (omega arith))
-          ∙ ap (λ j. ringView f (set xs j true)) n ∙ set-after f xs inside k true (omega (arith, xs-long)) (omega (arith, xs-long)))
+      let n : f + k - P ≡ f + k - length xs = ap (λ p. f + k - p) (sym xs-long) in
+      ap (λ j. ringView f (take P (set slots j true))) (cond-false _ _ _ (le-ltb (f + k) P after)) ∙ ap (ringView f) (take-set-lt P slots (f + k - P) true (omega arith))
+      ∙ ap (λ j. ringView f (set xs j true)) n ∙ set-after f xs inside k true (omega (arith, xs-long)) (omega (arith, xs-long)))
       (cases-lt (f + k) P)
 
   -- a pass: where the front moves on, and where it starts again

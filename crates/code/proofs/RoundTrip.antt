@@ -129,7 +129,7 @@ reads-back r =
     let same : (i : ℕ) → field i % 256 + field i / 256 % 256 * 256 ≡ field i = λ i. u16-of-bytes (field i) (field-fits t i) in
     let bits = ofZ w32 (r .argument) in
     let fields : (field 0 % 256 + field 0 / 256 % 256 * 256) ∷ (field 1 % 256 + field 1 / 256 % 256 * 256) ∷ (field 2 % 256 + field 2 / 256 % 256 * 256) ∷ (field 3 % 256 + field 3 / 256 % 256 * 256) ∷ [] ≡ fs =
-        (λ i. same 0 i ∷ same 1 i ∷ same 2 i ∷ same 3 i ∷ []) ∙ four-of fs (four-fields t) in
+    (λ i. same 0 i ∷ same 1 i ∷ same 2 i ∷ same 3 i ∷ []) ∙ four-of fs (four-fields t) in
     let argument = ap (toZ w32) (u32-of-bytes bits (ofZ-below (r .argument) (argument-fits r))) ∙ toZ-ofZ w32 (r .argument) (argument-fits r) in
     (λ i. assembled (operation-of-number (r .operation) i) (targetOf (countByte t) (fields i)) (u16-of-bytes (r .node) (node-fits r) i) (argument i))
     ∙ ap (λ u. assembled (Some (r .operation)) u (r .node) (r .argument)) (target-back t)
@@ -140,19 +140,19 @@ reads-back r =
 four-zeros : (fs : List ℕ) → length fs ≡ 4 → allZero fs ≡ true → 0 ∷ 0 ∷ 0 ∷ 0 ∷ [] ≡ fs
 four-zeros fs four zeros = (λ i. sym (at 0) i ∷ sym (at 1) i ∷ sym (at 2) i ∷ sym (at 3) i ∷ []) ∙ four-of fs four
   where
-  at : (i : ℕ) → getD fs i 0 ≡ 0
-  at i = zero-at fs i zeros
+    at : (i : ℕ) → getD fs i 0 ≡ 0
+    at i = zero-at fs i zeros
 
 target-read : (n : ℕ) (fs : List ℕ) (t : Target) → length fs ≡ 4 → targetOf n fs ≡ Some t → (countByte t ≡ n) × (placeFields t ≡ fs)
 target-read n fs t four e =
     ⊎-elim
     (λ rear.
-        let got = provided-at (allZero fs) (λ _. Rear) t (sym (cond-true (eqb n 255) _ _ rear) ∙ e) in
-        (ap countByte (sym (got .1)) ∙ sym (eqb-true n 255 rear), ap placeFields (sym (got .1)) ∙ four-zeros fs four (got .0)))
+    let got = provided-at (allZero fs) (λ _. Rear) t (sym (cond-true (eqb n 255) _ _ rear) ∙ e) in
+    (ap countByte (sym (got .1)) ∙ sym (eqb-true n 255 rear), ap placeFields (sym (got .1)) ∙ four-zeros fs four (got .0)))
     (λ places.
-        let at = mapped-at At (placesOf n fs) t (sym (cond-false (eqb n 255) _ _ places) ∙ e) in
-        let made = provided-at (placesLawful n fs) _ (at .0) (at .1) in
-        (ap countByte (sym (at .2)) ∙ ap (λ p. p .count) (sym (made .1)), ap placeFields (sym (at .2)) ∙ ap (λ p. p .fields) (sym (made .1))))
+    let at = mapped-at At (placesOf n fs) t (sym (cond-false (eqb n 255) _ _ places) ∙ e) in
+    let made = provided-at (placesLawful n fs) _ (at .0) (at .1) in
+    (ap countByte (sym (at .2)) ∙ ap (λ p. p .count) (sym (made .1)), ap placeFields (sym (at .2)) ∙ ap (λ p. p .fields) (sym (made .1))))
     (cases-bool (eqb n 255))
 
 -- the n elements from place k on

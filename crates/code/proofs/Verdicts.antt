@@ -62,4 +62,4 @@ pub stopped-at : (code : List ℕ) (P results n number place fault : ℕ) (ms : 
 stopped-at code P results n number place fault ms formed h before is =
     let after = marks-stay code (min P 4096) (n + 1) (recordCount code) number place fault (omega arith) (marks-on code (min P 4096) n ms (refused number place fault) before is) in
     sym (ap (λ a. ifGranted a (λ _. ifGranted (marksAfter code (min P 4096) (recordCount code)) (ending (recordCount code) results))) (sym formed)
-        ∙ ap (λ a. ifGranted a (ending (recordCount code) results)) after)
+    ∙ ap (λ a. ifGranted a (ending (recordCount code) results)) after)

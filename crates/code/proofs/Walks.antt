@@ -30,11 +30,12 @@ passes-more n ms = ap (λ k. passes k ms) (add-one n)
 
 pub puts-first : (i k : ℕ) (ks : List ℕ) (ms : List Bool) → puts i (k ∷ ks) ms ≡ ifGranted (puts i (k ∷ []) ms) (puts i ks)
 puts-first i k ks ms =
-    elim (ltb k (length ms)) as (λ b. _≡_ {A = Answer (List Bool)} (cond b (cond (getD ms k false) (refused 23 i 0) (puts i ks (set ms k true))) (refused 24 i 0)) (ifGranted (cond b (cond (getD ms k false) (refused 23 i 0) (granted (set ms k true))) (refused 24 i 0)) (puts i ks)))
-    [ true ↦
-        elim (getD ms k false) as (λ b. _≡_ {A = Answer (List Bool)} (cond b (refused 23 i 0) (puts i ks (set ms k true))) (ifGranted (cond b (refused 23 i 0) (granted (set ms k true))) (puts i ks)))
-        [ true ↦ refl | false ↦ refl ]
-    | false ↦ refl ]
+    elim (ltb k (length ms)) as (λ b. _≡_ {A = Answer (List Bool)} (cond b (cond (getD ms k false) (refused 23 i 0) (puts i ks (set ms k true))) (refused 24 i 0)) (ifGranted (cond b (cond (getD ms k false) (refused 23 i 0) (granted (set ms k true))) (refused 24 i 0)) (puts i ks))) [
+      | true ↦
+          elim (getD ms k false) as (λ b. _≡_ {A = Answer (List Bool)} (cond b (refused 23 i 0) (puts i ks (set ms k true))) (ifGranted (cond b (refused 23 i 0) (granted (set ms k true))) (puts i ks)))
+          [ true ↦ refl | false ↦ refl ]
+      | false ↦ refl
+    ]
 
 -- the places from place j of the list on, where the one at j was put on as a call answered
 pub puts-at : (i j : ℕ) (ks : List ℕ) (ms : List Bool) (first : Answer (List Bool)) → j < length ks → first ≡ puts i (getD ks j 0 ∷ []) ms → puts i (drop j ks) ms ≡ ifGranted first (puts i (drop (j + 1) ks))

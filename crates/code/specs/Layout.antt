@@ -71,8 +71,8 @@ abbrev pub decode : List ℕ → Option Record
 decode bs =
     cond (eqb (length bs) 16)
     (andThen (operation (byteAt bs 0)) (λ o.
-        andThen (targetOf (byteAt bs 1) (fieldsAt bs)) (λ t.
-            recordOf o (u16At bs 2) (i32At bs 4) t)))
+    andThen (targetOf (byteAt bs 1) (fieldsAt bs)) (λ t.
+    recordOf o (u16At bs 2) (i32At bs 4) t)))
     None
 
 -- record i of code: its bytes begin at 16 × i

@@ -89,4 +89,4 @@ ending m results ms = cond (justFront results ms) (granted tt) (refused 25 m 0)
 abbrev pub verdict : List ℕ → ℕ → ℕ → Answer (Unit {0})
 verdict code P results =
     ifGranted (wellFormed code results) (λ _.
-        ifGranted (marksAfter code (min P 4096) (recordCount code)) (ending (recordCount code) results))
+    ifGranted (marksAfter code (min P 4096) (recordCount code)) (ending (recordCount code) results))

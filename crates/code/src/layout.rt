@@ -132,7 +132,12 @@ impl Record {
         if argument < lowest || highest < argument {
             return None;
         }
-        Some(Record { operation, node, argument, target })
+        Some(Record {
+            operation,
+            node,
+            argument,
+            target,
+        })
     }
 }
 
@@ -155,7 +160,12 @@ impl Record {
         let Some(operation) = Operation::from_number(bytes[0]) else {
             return None;
         };
-        let fields = [u16_at(bytes, 8), u16_at(bytes, 10), u16_at(bytes, 12), u16_at(bytes, 14)];
+        let fields = [
+            u16_at(bytes, 8),
+            u16_at(bytes, 10),
+            u16_at(bytes, 12),
+            u16_at(bytes, 14),
+        ];
         let Some(target) = Target::new(bytes[1], fields) else {
             return None;
         };
@@ -183,6 +193,23 @@ impl Record {
         let [s0, s1] = s.to_le_bytes();
         let operation = self.operation.number();
         let count = self.target.count_byte();
-        [operation, count, n0, n1, a0, a1, a2, a3, p0, p1, q0, q1, r0, r1, s0, s1]
+        [
+            operation,
+            count,
+            n0,
+            n1,
+            a0,
+            a1,
+            a2,
+            a3,
+            p0,
+            p1,
+            q0,
+            q1,
+            r0,
+            r1,
+            s0,
+            s1,
+        ]
     }
 }

@@ -43,5 +43,9 @@ pub fn lawful_record(code: &[u8], index: usize) -> Option<Record>
     let Some(found) = record_at(code, index) else {
         return None;
     };
-    if found.target.is_rear() == is_simple(code) { Some(found) } else { None }
+    if found.target.is_rear() == is_simple(code) {
+        Some(found)
+    } else {
+        None
+    }
 }

@@ -36,10 +36,16 @@ fn put_on(marks: &mut Marks, k: usize, index: usize) -> Result<(), Refusal>
     ensures { λ r. ⌜ outcome r (view (now (marks .exit))) ≡ puts index (k ∷ []) (view (now (marks .entry))) ⌝ }
 {
     if k >= marks.len() {
-        return Err(Refusal { reason: Reason::PlaceMissing, place: index });
+        return Err(Refusal {
+            reason: Reason::PlaceMissing,
+            place: index,
+        });
     }
     if marks.is_full(k) {
-        return Err(Refusal { reason: Reason::PlaceFull, place: index });
+        return Err(Refusal {
+            reason: Reason::PlaceFull,
+            place: index,
+        });
     }
     marks.put(k);
     Ok(())
@@ -61,7 +67,10 @@ pub(crate) fn step_marks(marks: &mut Marks, record: &Record, index: usize) -> Re
 {
     let operands = record.operation.arity();
     if !front_full(marks, operands) {
-        return Err(Refusal { reason: Reason::PlaceEmpty, place: index });
+        return Err(Refusal {
+            reason: Reason::PlaceEmpty,
+            place: index,
+        });
     }
     pass_all(marks, operands);
     match record.target {

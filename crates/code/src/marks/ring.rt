@@ -6,8 +6,8 @@ ghost use lib.Dec.{ltb};
 ghost use lib.ListN.{getD, length, replicate, set};
 ghost use Rattle.code.specs.Marks.{fullCount, pass};
 ghost use Rattle.code.specs.Ring.{view};
-use super::Marks;
 use super::MOST_PLACES;
+use super::Marks;
 
 // More places than a queue has count as the most.
 fn at_most_all(places: usize) -> usize
@@ -21,7 +21,12 @@ impl Marks {
     pub(crate) fn empty(places: usize) -> Marks
         ensures { λ r. ⌜ view r ≡ replicate (min places 4096) false ⌝ }
     {
-        Marks { slots: [false; 4096], places: at_most_all(places), front: 0, full: 0 }
+        Marks {
+            slots: [false; 4096],
+            places: at_most_all(places),
+            front: 0,
+            full: 0,
+        }
     }
 
     pub(crate) fn len(&self) -> usize
@@ -87,13 +92,21 @@ impl Marks {
     fn next_front(&self) -> usize
         ensures { λ r. ⌜ r ≡ cond (ltb (now (self .entry) .front + 1) (now (self .entry) .places)) (now (self .entry) .front + 1) 0 ⌝ }
     {
-        if self.front + 1 < self.places { self.front + 1 } else { 0 }
+        if self.front + 1 < self.places {
+            self.front + 1
+        } else {
+            0
+        }
     }
 
     // How many places are full once place 0 is dropped.
     fn full_after_pass(&self) -> usize
         ensures { λ r. ⌜ r ≡ fullCount (pass (view (now (self .entry)))) ⌝ }
     {
-        if self.is_full(0) { self.full - 1 } else { self.full }
+        if self.is_full(0) {
+            self.full - 1
+        } else {
+            self.full
+        }
     }
 }

@@ -1,12 +1,33 @@
--- The first line and the rest of a text are its lines, and what is read of those judges the text.
-use mathlib.Core.Path.{subst}
-use Rattle.bench_text.specs.Reading.{Reading, Bench, Says, benchOf}
+-- What `read_bench` answers at a first line that is not of the form, and by what `read_records` answers.
+use mathlib.Core.List.{[]}
+use mathlib.Core.Path.{_∙_, ap}
+use native.Mathlib.Omega.{arith}
+use lib.ListN.{length}
+use Rattle.std.specs.declared.option.Option.the-variants.{Some, None}
+use Rattle.bench_text.specs.declared.answers.Expected.the-variants.{Numbers}
+use Rattle.bench_text.specs.Lines.{lines}
+use Rattle.bench_text.specs.Reading.{refused, recordsFrom}
 use Rattle.bench_text.proofs.Judging.{judged}
-use Rattle.bench_text.proofs.Lining.{whole-text}
+use Rattle.bench_text.proofs.Lining.{parts-fit, whole-text}
+use Rattle.bench_text.proofs.Placing.{at-long}
 use Rattle.bench_text.proofs.texts.read_bench.Needs as need
+
+pub returns-in-rest : need.returns-in-rest
+returns-in-rest c =
+    let text = c .args .text .now in
+    let old = c .args .code .now in
+    let same = at-long text old (refused 1 Numbers []) (omega arith) (whole-text text _ _ (c .cut .ensures .front) (c .cut .ensures .back) None (c .in-rest .ensures tt)) in
+    record { answer = same .0; buffer = same .1; fits = tt; judges-the-text = judged text old old _ (same .0) (same .1) }
+
+pub read-records-requires : need.read-records-requires
+read-records-requires c κs = omega (arith, parts-fit 10 (c .args .text .now), ap length (c .cut .ensures .back))
 
 pub returns : need.returns
 returns c =
-    let answer = c .read-lines .result in
-    let said = subst (λ (x : Reading Bench). Says benchOf answer x) (whole-text (c .args .text .now) _ _ (c .cut .ensures .front) (c .cut .ensures .back)) (c .read-lines .ensures) in
-    record { answers-the-reading = said; judges-the-text = judged answer (c .args .text .now) said }
+    let text = c .args .text .now in
+    let old = c .args .code .now in
+    let head = c .in-Some .header in
+    let same = at-long text old (recordsFrom head 0 [] (lines (c .cut .result .1 .now))) (omega arith) (whole-text text _ _ (c .cut .ensures .front) (c .cut .ensures .back) (Some head) (c .in-Some .ensures tt)) in
+    let answer = c .read-records .ensures .answer ∙ same .0 in
+    let buffer = c .read-records .ensures .buffer ∙ same .1 in
+    record { answer = answer; buffer = buffer; fits = c .read-records .ensures .fits; judges-the-text = judged text old _ _ answer buffer }

@@ -8,9 +8,16 @@ use Rattle.code.proofs.marks.Marks.pass.Needs as need
 pub ghost-self : need.ghost-self
 ghost-self c =
     let m = c .args .self .now in
-    let next = c .next-front-next in
-    (m .few, (next-within m (next .result) (c .if-self-eq0 .left) (next .ensures), (length-set (m .slots) (m .front) false ∙ m .long,
-        (c .full-after-pass-full .ensures ∙ ap fullCount (sym (pass-is m (next .result) (c .if-self-eq0 .left) (next .ensures))), tt))))
+    let next = c .next-front-next in (
+      m .few,
+      (
+        next-within m (next .result) (c .if-self-eq0 .left) (next .ensures),
+        (
+          length-set (m .slots) (m .front) false ∙ m .long,
+          (c .full-after-pass-full .ensures ∙ ap fullCount (sym (pass-is m (next .result) (c .if-self-eq0 .left) (next .ensures))), tt),
+        ),
+      ),
+    )
 
 pub returns : need.returns
 returns c =

@@ -18,9 +18,16 @@ add-self c = record { fits = omega (arith, few-full (c .args .self .now)) }
 
 pub ghost-self : need.ghost-self
 ghost-self c =
-    let m = c .args .self .now in
-    (m .few, (m .«front_within», (length-set (m .slots) (c .slot-slot .result) true ∙ m .long,
-        (put-counts m (c .args .k) (c .slot-slot .result) (omega (arith, c .pre .within, view-long m)) (c .slot-slot .ensures) (c .pre .empty), tt))))
+    let m = c .args .self .now in (
+      m .few,
+      (
+        m .«front_within»,
+        (
+          length-set (m .slots) (c .slot-slot .result) true ∙ m .long,
+          (put-counts m (c .args .k) (c .slot-slot .result) (omega (arith, c .pre .within, view-long m)) (c .slot-slot .ensures) (c .pre .empty), tt),
+        ),
+      ),
+    )
 
 pub returns : need.returns
 returns c =
