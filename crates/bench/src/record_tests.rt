@@ -52,18 +52,12 @@ fn what_a_record_may_not_hold_is_refused() -> Result<(), Fail> {
 
 #[test]
 fn refusals_are_printed(rt: LibcRuntime) -> Result<(), Fail> {
-    let unknown = Refusal {
-        reason: Reason::NameNotKnown,
-        place: 2,
-    };
+    let unknown = Reason::NameNotKnown.at(2);
     check_eq(unknown.to_string(rt.alloc())?.as_str(), "refused 6 at 2")?;
     let Some(fault) = Fault::new(3) else {
         return Err(Fail::new("no fault"));
     };
-    let faulted = Refusal {
-        reason: Reason::Faulted(fault),
-        place: 8,
-    };
+    let faulted = Reason::Faulted(fault).at(8);
     check_eq(
         faulted.to_string(rt.alloc())?.as_str(),
         "refused 29 at 8 with fault 3",

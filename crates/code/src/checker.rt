@@ -24,10 +24,7 @@ fn all_lawful(code: &[u8]) -> Result<(), Refusal>
 {
     for index in 0..code.len() / RECORD_BYTES {
         if lawful_record(code, index).is_none() {
-            return Err(Refusal {
-                reason: Reason::RecordMalformed,
-                place: index,
-            });
+            return Err(Reason::RecordMalformed.at(index));
         }
     }
     Ok(())
@@ -38,16 +35,10 @@ fn well_formed(code: &[u8], results: usize) -> Result<(), Refusal>
     ensures { λ r. ⌜ answer r ≡ wellFormed (now (code .entry)) results ⌝ }
 {
     if code.len() % RECORD_BYTES != 0 || code.len() / RECORD_BYTES > MOST_RECORDS {
-        return Err(Refusal {
-            reason: Reason::CodeLength,
-            place: 0,
-        });
+        return Err(Reason::CodeLength.at(0));
     }
     if results > MOST_RESULTS {
-        return Err(Refusal {
-            reason: Reason::ResultList,
-            place: 0,
-        });
+        return Err(Reason::ResultList.at(0));
     }
     all_lawful(code)
 }
@@ -57,10 +48,7 @@ fn step_at(code: &[u8], index: usize, marks: &mut Marks) -> Result<(), Refusal>
     ensures { λ r. ⌜ outcome r (view (now (marks .exit))) ≡ stepAt index (lawfulAt (now (code .entry)) index) (view (now (marks .entry))) ⌝ }
 {
     let Some(found) = lawful_record(code, index) else {
-        return Err(Refusal {
-            reason: Reason::RecordMalformed,
-            place: index,
-        });
+        return Err(Reason::RecordMalformed.at(index));
     };
     step_marks(marks, &found, index)
 }
@@ -86,9 +74,6 @@ pub fn check(code: &[u8], places: usize, results: usize) -> Result<(), Refusal>
     if just_front(&marks, results) {
         Ok(())
     } else {
-        Err(Refusal {
-            reason: Reason::NotJustResults,
-            place: records,
-        })
+        Err(Reason::NotJustResults.at(records))
     }
 }

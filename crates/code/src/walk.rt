@@ -36,16 +36,10 @@ fn put_on(marks: &mut Marks, k: usize, index: usize) -> Result<(), Refusal>
     ensures { λ r. ⌜ outcome r (view (now (marks .exit))) ≡ puts index (k ∷ []) (view (now (marks .entry))) ⌝ }
 {
     if k >= marks.len() {
-        return Err(Refusal {
-            reason: Reason::PlaceMissing,
-            place: index,
-        });
+        return Err(Reason::PlaceMissing.at(index));
     }
     if marks.is_full(k) {
-        return Err(Refusal {
-            reason: Reason::PlaceFull,
-            place: index,
-        });
+        return Err(Reason::PlaceFull.at(index));
     }
     marks.put(k);
     Ok(())
@@ -67,10 +61,7 @@ pub(crate) fn step_marks(marks: &mut Marks, record: &Record, index: usize) -> Re
 {
     let operands = record.operation.arity();
     if !front_full(marks, operands) {
-        return Err(Refusal {
-            reason: Reason::PlaceEmpty,
-            place: index,
-        });
+        return Err(Reason::PlaceEmpty.at(index));
     }
     pass_all(marks, operands);
     match record.target {

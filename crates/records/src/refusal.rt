@@ -1,4 +1,5 @@
 // A refusal: why, and at which byte, node, record or place.
+ghost use mathlib.Core.Path.{_≡_};
 ghost use Rattle.records.specs.Refusals.{refusalText};
 ghost use Rattle.std.specs.declared.option.Option.the-variants.{Some};
 use crate::reason::Reason;
@@ -10,6 +11,18 @@ use std::fmt;
 pub struct Refusal {
     pub reason: Reason,
     pub place: usize,
+}
+
+impl Reason {
+    // The refusal for this reason at a place.
+    pub fn at(self, place: usize) -> Refusal
+        ensures { λ r. ⌜ r ≡ record { reason = self; place = place } ⌝ }
+    {
+        Refusal {
+            reason: self,
+            place,
+        }
+    }
 }
 
 pub impl fmt::Display for Refusal as RefusalDisplay {
