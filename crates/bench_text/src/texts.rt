@@ -7,7 +7,7 @@ ghost use Rattle.std.specs.Vec.{made};
 ghost use Rattle.bench_text.specs.declared.answers.Expected.the-variants.{Record};
 ghost use Rattle.bench_text.specs.declared.answers.TextError.the-variants.{Line};
 ghost use Rattle.bench_text.specs.Lines.{lines};
-ghost use Rattle.bench_text.specs.Reading.{countsOf, recordsFrom, answerOf, codeOf, placed, answered, filled};
+ghost use Rattle.bench_text.specs.Reading.{countsOf, recordsFrom, reading, given, answerOf, codeOf, placed, answered, filled};
 ghost use Rattle.bench_text.specs.Spelling.{Judges};
 use crate::answers::BenchCounts;
 use crate::answers::Expected;
@@ -52,7 +52,7 @@ fn read_records(header: Header, text: &[u8], code: &mut [u8]) -> Result<BenchCou
     requires { ⌜ length (now text) / 2 ≤ length (now code) ⌝ }
     ensures answer { λ r. ⌜ r ≡ answerOf (recordsFrom header 0 [] (lines (now (text .entry)))) ⌝ }
     ensures buffer { λ _. ⌜ now (code .exit) ≡ placed (codeOf (recordsFrom header 0 [] (lines (now (text .entry))))) (now (code .entry)) ⌝ }
-    ensures fits { λ r. ⌜ made r (λ c. 16 * c .records ≤ length (now (code .entry))) ⌝ }
+    ensures holds_the_code { λ r. ⌜ made r (λ c. (16 * c .records ≤ length (now (code .entry))) × (recordsFrom header 0 [] (lines (now (text .entry))) ≡ given c (take (16 * c .records) (now (code .exit))))) ⌝ }
 {
     let mut rest = text;
     let mut records = 0;
@@ -72,7 +72,7 @@ fn read_records(header: Header, text: &[u8], code: &mut [u8]) -> Result<BenchCou
 pub fn read_bench(text: &[u8], code: &mut [u8]) -> Result<BenchCounts, TextError>
     ensures answer { λ r. ⌜ r ≡ answered (now (text .entry)) (now (code .entry)) ⌝ }
     ensures buffer { λ _. ⌜ now (code .exit) ≡ filled (now (text .entry)) (now (code .entry)) ⌝ }
-    ensures fits { λ r. ⌜ made r (λ c. 16 * c .records ≤ length (now (code .entry))) ⌝ }
+    ensures holds_the_code { λ r. ⌜ made r (λ c. (16 * c .records ≤ length (now (code .entry))) × (reading (now (text .entry)) ≡ given c (take (16 * c .records) (now (code .exit))))) ⌝ }
     ensures judges_the_text { λ r. ⌜ Judges r (now (text .entry)) (now (code .entry)) (now (code .exit)) ⌝ }
 {
     if code.len() < text.len() / 2 {

@@ -1,11 +1,15 @@
--- What the program prints. Assumes nothing.
+-- What the program reports of a text, and what it prints of a report. Assumes nothing.
 use mathlib.Core.Bool.{cond}
 use mathlib.Core.List.{List, [], _++_}
+use mathlib.Core.Path.{_≡_}
 use Prim.Native.Nat.{ℕ}
 use lib.Chars.{codes}
 use lib.Dec.{eqb}
+use Rattle.bench_text.specs.Reading.{Reading, given, refused}
+use Rattle.bench_text.specs.declared.answers.BenchCounts.{BenchCounts}
 use Rattle.check_code.specs.declared.report.Report.{Report}
-use Rattle.records.specs.Refusals.{refusalText}
+use Rattle.code.specs.Verdict.{recordCount, verdict}
+use Rattle.records.specs.Refusals.{answer, refusalText}
 use Rattle.records.specs.declared.refusal.Refusal.{Refusal}
 use Rattle.std.specs.Written.{decimal}
 use Rattle.std.specs.declared.result.Result.{Result}
@@ -25,3 +29,15 @@ verdictText r (Err e) = refusalText e
 
 abbrev pub reportText : Report → List ℕ
 reportText r = verdictText r (r .verdict)
+
+-- the report on a text that is read as some counts and some code: how much there is, and the checker's verdict
+pub record ReportOn (counts : BenchCounts) (code : List ℕ) (r : Report) : Type 0 where
+  pub records : r .records ≡ recordCount code
+  pub places : r .places ≡ counts .places
+  pub results : r .results ≡ counts .results
+  pub is-the-verdict : answer (r .verdict) ≡ verdict code (counts .places) (counts .results)
+
+-- there is no report on a text that is not of the form
+abbrev pub Reports : Reading → Report → Type 0
+Reports (given counts code) r = ReportOn counts code r
+Reports (refused n want code) r = ⊥

@@ -2,12 +2,15 @@
 ghost use mathlib.Core.Path.{_≡_};
 ghost use Prim.Native.Nat.{_*_, _≤_};
 ghost use lib.ListN.{length, take};
-ghost use Rattle.code.specs.Verdict.{recordCount, verdict};
-ghost use Rattle.records.specs.Refusals.{answer};
+ghost use Rattle.bench_text.specs.Reading.{answered, given, reading};
+ghost use Rattle.check_code.specs.Reports.{Reports};
+ghost use Rattle.std.specs.Results.{Cases};
+ghost use Rattle.std.specs.declared.result.Result.the-variants.{Err};
 
 mod report;
 
 use bench_text::BenchCounts;
+use bench_text::TextError;
 use bench_text::TextErrorDisplay;
 use bench_text::read_bench;
 use code::RECORD_BYTES;
@@ -17,20 +20,25 @@ use report::ReportDisplay;
 use std::error::AnyError;
 use std::io::Read;
 
-// The checker's answer to the code that `buffer` begins with.
-fn judge(bench: BenchCounts, buffer: &[u8]) -> Report
-    requires { ⌜ 16 * bench .records ≤ length (now buffer) ⌝ }
-    ensures records { λ r. ⌜ r .records ≡ recordCount (take (16 * bench .records) (now (buffer .entry))) ⌝ }
-    ensures places { λ r. ⌜ r .places ≡ bench .places ⌝ }
-    ensures results { λ r. ⌜ r .results ≡ bench .results ⌝ }
-    ensures is_the_verdict { λ r. ⌜ answer (r .verdict) ≡ verdict (take (16 * bench .records) (now (buffer .entry))) (bench .places) (bench .results) ⌝ }
+// The report on a text that brings code; the code is put into the buffer.
+fn examine(text: &[u8], buffer: &mut [u8]) -> Result<Report, TextError>
+    ensures { λ r. ⌜ Cases r (Reports (reading (now (text .entry)))) (λ e. Err e ≡ answered (now (text .entry)) (now (buffer .entry))) ⌝ }
 {
-    let (code, _) = buffer.split_at(RECORD_BYTES * bench.records);
+    let counts = read_bench(text, buffer)?;
+    Ok(judge(counts, buffer))
+}
+
+// The checker's answer to the code that `buffer` begins with.
+fn judge(counts: BenchCounts, buffer: &[u8]) -> Report
+    requires { ⌜ 16 * counts .records ≤ length (now buffer) ⌝ }
+    ensures { λ r. ⌜ Reports (given counts (take (16 * counts .records) (now (buffer .entry)))) r ⌝ }
+{
+    let (code, _) = buffer.split_at(RECORD_BYTES * counts.records);
     Report {
         records: code.len() / RECORD_BYTES,
-        places: bench.places,
-        results: bench.results,
-        verdict: check(code, bench.places, bench.results),
+        places: counts.places,
+        results: counts.results,
+        verdict: check(code, counts.places, counts.results),
     }
 }
 
@@ -39,9 +47,8 @@ fn run(rt: &LibcRuntime) -> Result<(), AnyError> {
     let mut text = Vec::new(heap);
     rt.stdin().read_to_end(&mut text)?;
     let mut buffer = vec![in heap; 0u8; text.len() / 2]?;
-    match read_bench(text.as_slice(), buffer.as_mut_slice()) {
-        Ok(bench) => {
-            let report = judge(bench, buffer.as_slice());
+    match examine(text.as_slice(), buffer.as_mut_slice()) {
+        Ok(report) => {
             println!(rt, "{report}")?;
             Ok(())
         }

@@ -1,14 +1,14 @@
 -- The tests of place fields, one element at a time. Assumes nothing.
 use mathlib.Core.Bool.{Bool, true, false, _&&_}
 use mathlib.Core.List.{List, [], _∷_}
-use mathlib.Core.Path.{_≡_, refl, sym, ap, subst, _∙_}
-use Prim.Native.Nat.{ℕ, zero, suc, _+_, _-_, _≤_, _<_}
+use mathlib.Core.Path.{_≡_, refl, sym, ap, _∙_}
+use Prim.Native.Nat.{ℕ, suc, _+_, _-_, _≤_, _<_}
 use native.Mathlib.Omega.{arith}
 use lib.Dec.{eqb, ltb}
 use lib.ListN.{length, getD, take, drop, length-drop}
 use Rattle.code.specs.Lawful.{allBelow, allZero, ascending, placesLawful}
 use Rattle.std.proofs.shelf.Lists.{at-drop-more, drop-more, take-all}
-use Rattle.std.proofs.shelf.Tests.{eq-eqb, ne-eqb, lt-ltb, le-leb, lt-leb, and-left, false≢true}
+use Rattle.std.proofs.shelf.Tests.{eq-eqb, ne-eqb, lt-ltb, le-leb, false≢true}
 
 module _ (xs : List ℕ) (i : ℕ) (within : i < length xs) where
   pub zeros-go-on : getD xs i 0 ≡ 0 → allZero (drop i xs) ≡ allZero (drop (i + 1) xs)
@@ -53,9 +53,6 @@ module _ (count : ℕ) (fields : List ℕ) (four : length fields ≡ 4) (small :
 
   pub lawful-by-parts : count ≤ 4 → (ascending (take count fields) && allZero (drop count fields)) ≡ placesLawful count fields
   lawful-by-parts few = sym (past-sizes (past _ (le-leb count 4 few) refl))
-
-  pub lawful-not : 4 < count → false ≡ placesLawful count fields
-  lawful-not many = sym (past-sizes (and-left _ _ (lt-leb count 4 many)))
 
   -- as a function finds it that tests the two parts of the fields one after the other
   pub lawful-tested : count ≤ 4 → (zeros : Bool) → true ≡ ascending (take (count - 0) (drop 0 fields)) → zeros ≡ allZero (take (4 - count) (drop count fields)) → zeros ≡ placesLawful count fields

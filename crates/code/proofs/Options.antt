@@ -5,17 +5,13 @@ use Prim.Native.Nat.{ℕ}
 use native.Mathlib.Omega.{arith}
 use Rattle.code.specs.Layout.{andThen, provided}
 use Rattle.std.specs.Options.{mapped}
-use Rattle.std.proofs.shelf.Tests.{true≢false, false≢true}
+use Rattle.std.proofs.shelf.Tests.{false≢true}
 use Rattle.std.specs.declared.option.Option.{Option}
 use Rattle.std.specs.declared.option.Option.the-variants.{Some, None}
 
 pub provided-some : {X : Type 0} (b : Bool) (f : b ≡ true → X) (e : b ≡ true) → Some (f e) ≡ provided b f
 provided-some true f e = ap (λ p. Some (f p)) (Bool-set true true e refl)
 provided-some false f e = absurd (false≢true e)
-
-pub provided-none : {X : Type 0} (b : Bool) (f : b ≡ true → X) → b ≡ false → None ≡ provided b f
-provided-none true f e = absurd (true≢false e)
-provided-none false f e = refl
 
 -- what must have held where a value came out
 

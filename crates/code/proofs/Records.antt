@@ -1,12 +1,12 @@
 -- The bytes of one record of a code. Assumes nothing.
 use mathlib.Core.Bool.{false}
-use mathlib.Core.List.{List, []}
+use mathlib.Core.List.{List}
 use mathlib.Core.Logic.{⊎-elim}
 use mathlib.Core.Path.{_≡_, sym, ap, _∙_}
-use Prim.Native.Nat.{ℕ, _+_, _-_, _*_, _≤_, _<_, min}
+use Prim.Native.Nat.{ℕ, _+_, _-_, _*_, _<_, min}
 use native.Mathlib.Omega.{arith}
 use lib.Dec.{eqb}
-use lib.ListN.{length, getD, take, drop, length-drop}
+use lib.ListN.{length, take, drop, length-drop}
 use Rattle.code.specs.Verdict.{isSimple}
 use Rattle.std.proofs.shelf.Lists.{drop-all, getD-past, take-all}
 use Rattle.std.proofs.shelf.Tests.{cases-lt}

@@ -1,13 +1,12 @@
 -- What a put and a pass make of a ring of marks. Assumes nothing.
-use mathlib.Core.Bool.{Bool, true, false, cond}
-use mathlib.Core.List.{List}
+use mathlib.Core.Bool.{true, false, cond}
 use mathlib.Core.Logic.{⊎-elim}
-use mathlib.Core.Path.{_≡_, refl, sym, ap, _∙_}
+use mathlib.Core.Path.{_≡_, sym, ap, _∙_}
 use Prim.Native.Nat.{ℕ, _+_, _-_, _≤_, _<_, max}
 use native.Mathlib.Omega.{arith}
 use lib.Dec.{ltb}
-use lib.ListN.{length, getD, set, take, length-set}
-use Rattle.code.proofs.RingViews.{count-pass, count-set, count-within, pass-on, pass-over, place-at, place-put, places-length, slot-within, slotOf}
+use lib.ListN.{length, getD, set, take}
+use Rattle.code.proofs.RingViews.{count-pass, count-set, count-within, pass-on, pass-over, place-at, place-put, places-length, slot-within}
 use Rattle.code.specs.Marks.{fullCount, pass, ringView}
 use Rattle.code.specs.Ring.{view}
 use Rattle.code.specs.declared.marks.Marks.{Marks}

@@ -2,12 +2,11 @@
 use mathlib.Core.Bool.{Bool, true, false, cond}
 use mathlib.Core.List.{List, [], _∷_, _++_, append-nil, append-assoc}
 use mathlib.Core.Logic.{⊎-elim}
-use mathlib.Core.Path.{_≡_, refl, sym, ap, subst, _∙_}
+use mathlib.Core.Path.{_≡_, refl, sym, ap, _∙_}
 use Prim.Native.Nat.{ℕ, zero, suc, _+_, _-_, _≤_, _<_, max}
-use native.Mathlib.Nat.{add-zero}
 use native.Mathlib.Omega.{arith}
 use lib.Dec.{ltb}
-use lib.ListN.{length, getD, set, take, drop, replicate, length-append, length-drop, length-set, length-take}
+use lib.ListN.{length, getD, set, take, drop, replicate, length-append, length-drop, length-set}
 use lib.Seq.{take-set-lt}
 use Rattle.code.specs.Marks.{fullCount, pass, ringView}
 use Rattle.std.proofs.shelf.Lists.{drop-all, drop-more, drop-set-add, drop-set-lt, getD-append-left, getD-append-right, getD-drop, getD-take, set-append-left, set-append-right, take-all, take-more-set, take-replicate, take-set-le, length-take-le}
@@ -137,10 +136,6 @@ module _ (P f : ℕ) (slots : List Bool) (few : P ≤ length slots) (within : f 
   pass-over h =
       ap (ringView 0) (take-set-lt P slots f false (omega arith)) ∙ turn-over (f + 1) (set xs f false) (omega (arith, xs-long, length-set xs f false))
       ∙ turn f xs (omega (arith, xs-long))
-
-  pub front-at : 0 < P → getD (ringView f (take P slots)) 0 false ≡ getD slots f false
-  front-at some =
-      place-at 0 some ∙ ap (λ j. getD slots j false) (cond-true _ _ _ (lt-ltb (f + 0) P (omega arith)) ∙ add-zero f)
 
 pub empty-view : (n P : ℕ) → P ≤ n → ringView 0 (take P (replicate n false)) ≡ replicate P false
 empty-view n P h = append-nil (take P (replicate n false)) ∙ take-replicate P n false h

@@ -1,11 +1,10 @@
 -- Reading undoes writing, and writing undoes reading. Assumes nothing.
-use mathlib.Core.Bool.{Bool, true, false, cond, _&&_}
+use mathlib.Core.Bool.{true, false}
 use mathlib.Core.List.{List, [], _∷_, _++_}
 use mathlib.Core.Logic.{⊎-elim}
-use mathlib.Core.Path.{_≡_, refl, sym, ap, subst, _∙_}
-use Prim.Native.Nat.{ℕ, zero, suc, _+_, _-_, _*_, _/_, _%_, _^_, _≤_, _<_}
-use native.Mathlib.Nat.{add-zero, add-suc, div-div-eq-div-mul, suc-add}
-use native.Mathlib.Numerals.{add-one}
+use mathlib.Core.Path.{_≡_, refl, sym, ap, _∙_}
+use Prim.Native.Nat.{ℕ, zero, suc, _+_, _-_, _*_, _/_, _%_, _<_}
+use native.Mathlib.Nat.{div-div-eq-div-mul}
 use native.Mathlib.Omega.{arith}
 use lib.Dec.{eqb, leb, ltb, lit<}
 use lib.IntN.{ℤ, pos, negsuc}
@@ -16,13 +15,12 @@ use mir.Val.{SFits, ofZ, toZ}
 use Rattle.code.proofs.Options.{andThen-at, cond-at, mapped-at, provided-at, provided-some}
 use Rattle.code.specs.Bytes.{byteAt, i32At, i32Bytes, u16At, u16Bytes}
 use Rattle.code.specs.Lawful.{allBelow, allZero, argumentRange, placesLawful, recordLawful}
-use Rattle.code.specs.Layout.{andThen, countByte, decode, fieldsAt, fieldsBytes, layout, placeFields, placesOf, provided, recordOf, targetOf}
-use Rattle.code.specs.declared.places.Places.{Places}
+use Rattle.code.specs.Layout.{andThen, countByte, decode, fieldsAt, fieldsBytes, layout, placeFields, placesOf, recordOf, targetOf}
 use Rattle.code.specs.declared.record.Record.{Record}
 use Rattle.code.specs.declared.target.Target.{Target}
 use Rattle.code.specs.declared.target.Target.the-variants.{Rear, At}
 use Rattle.records.proofs.Operations.{number-of-operation, operation-of-number}
-use Rattle.records.specs.Operations.{operation, operationNumber}
+use Rattle.records.specs.Operations.{operation}
 use Rattle.records.specs.declared.operation.Operation.{Operation}
 use Rattle.records.specs.declared.operation.Operation.the-variants.{Input, Literal, Negate, Add, Subtract, Multiply, Divide}
 use Rattle.std.proofs.shelf.Lists.{drop-all, drop-more}

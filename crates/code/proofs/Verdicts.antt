@@ -1,16 +1,14 @@
 -- The checker's answer, one record at a time. Assumes nothing.
-use mathlib.Core.Bool.{Bool, true, false, cond, _&&_}
+use mathlib.Core.Bool.{Bool, true, false, cond}
 use mathlib.Core.List.{List}
 use mathlib.Core.Logic.{⊎-elim}
 use mathlib.Core.Path.{_≡_, refl, sym, ap, _∙_}
-use Prim.Native.Nat.{ℕ, zero, suc, _+_, _/_, _%_, _≤_, _<_, min}
+use Prim.Native.Nat.{ℕ, zero, suc, _+_, _≤_, _<_, min}
 use native.Mathlib.Numerals.{add-one}
 use native.Mathlib.Omega.{arith}
-use lib.Dec.{eqb, leb}
-use lib.ListN.{length}
-use Rattle.code.specs.Verdict.{allLawful, ending, firstUnlawful, lawfulAt, marksAfter, recordCount, stepAt, verdict, wellFormed, wholeRecords}
+use Rattle.code.specs.Verdict.{ending, firstUnlawful, lawfulAt, marksAfter, recordCount, stepAt, verdict, wellFormed}
 use Rattle.records.specs.Refusals.{Answer, granted, refused, ifGranted}
-use Rattle.std.proofs.shelf.Tests.{and-from, cases-eq, cond-true, eq-eqb, le-leb}
+use Rattle.std.proofs.shelf.Tests.{cases-eq}
 use Rattle.std.specs.Options.{isSome}
 use Rattle.std.specs.declared.option.Option.{Option}
 use Rattle.std.specs.declared.option.Option.the-variants.{Some, None}
@@ -41,10 +39,6 @@ module _ (code : List ℕ) where
   pub unlawful-at : (n m : ℕ) → n < m → firstUnlawful code n ≡ None → isSome (lawfulAt code n) ≡ false → firstUnlawful code m ≡ Some n
   unlawful-at n m h before here =
       stays (firstUnlawful code) (Some n) (λ k e. onward-is code k ∙ ap (onward k _) e) (suc n) m (omega arith) (unlawful-here n before here)
-
-  pub formed-by : (results : ℕ) → length code % 16 ≡ 0 → length code / 16 ≤ 1024 → results ≤ 16 → allLawful (firstUnlawful code (recordCount code)) ≡ wellFormed code results
-  formed-by results whole few small =
-      sym (cond-true (wholeRecords code) _ _ (and-from _ _ (eq-eqb _ 0 whole) (le-leb _ 1024 few)) ∙ cond-true (leb results 16) _ _ (le-leb results 16 small))
 
   -- ---- the marks
 

@@ -1,6 +1,5 @@
 // The layout of a record in 16 bytes: making, reading and writing it.
 ghost use mathlib.Core.Path.{_≡_};
-ghost use Prim.Native.Nat.{_≤_, _<_};
 ghost use lib.Dec.{ltb};
 ghost use Rattle.code.specs.Lawful.{allZero, argumentRange, ascending, placesLawful};
 ghost use Rattle.code.specs.Layout.{countByte, decode, isRear, layout, placeFields, placesOf, recordOf, targetOf};

@@ -1,9 +1,7 @@
 // The fault of an arithmetic: a number from 1 to 255.
-ghost use mathlib.Core.Bool.{cond};
 ghost use mathlib.Core.Path.{_≡_};
 ghost use Prim.Native.Nat.{_≤_};
-ghost use lib.Dec.{eqb};
-ghost use Rattle.std.specs.Options.{Cases, mapped};
+ghost use Rattle.std.specs.Options.{Cases};
 
 #[derive(Clone, Copy, Debug, PartialEq, Eq)]
 pub struct Fault {

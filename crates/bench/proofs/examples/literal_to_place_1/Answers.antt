@@ -4,7 +4,7 @@ use Rattle.bench.proofs.examples.literal_to_place_1.Needs as need
 pub returns : need.returns
 returns c =
     record {
-      is-the-verdict = c .check .ensures .is-the-verdict;
+      is-the-verdict = c .one-literal .ensures;
       worked-verdicts = record {
         leaves-place-1-full = refl;
         place-1-is-missing = refl;

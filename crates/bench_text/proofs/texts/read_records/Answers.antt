@@ -1,8 +1,8 @@
 -- What `read_records` answers at a line that is no record, after a record, and at the end.
 use native.Mathlib.Omega.{arith}
-use mathlib.Core.List.{List}
-use mathlib.Core.Path.{_∙_, ap, sym}
-use Prim.Native.Nat.{ℕ, _+_, _*_, _<_}
+use mathlib.Core.List.{List, []}
+use mathlib.Core.Path.{_≡_, _∙_, ap, sym, subst}
+use Prim.Native.Nat.{ℕ, _+_, _*_, _<_, _≤_}
 use lib.ListN.{length, take}
 use Rattle.std.specs.declared.result.Result.the-variants.{Ok, Err}
 use Rattle.std.proofs.shelf.Lists.{nil-from-length}
@@ -10,7 +10,7 @@ use Rattle.std.proofs.shelf.Tests.{eqb-true, eqb-false}
 use Rattle.bench_text.specs.declared.answers.BenchCounts.{BenchCounts}
 use Rattle.bench_text.specs.declared.answers.TextError.{TextError}
 use Rattle.bench_text.specs.Lines.{lines}
-use Rattle.bench_text.specs.Reading.{Reading, recordsFrom, answerOf, codeOf, placed}
+use Rattle.bench_text.specs.Reading.{Reading, given, recordsFrom, answerOf, codeOf, placed}
 use Rattle.bench_text.proofs.Hexing.{record-spelt}
 use Rattle.bench_text.proofs.Lining.{no-record, one-record, shorter}
 use Rattle.bench_text.proofs.Placing.{settled, front-more, back-more}
@@ -26,7 +26,7 @@ returns-in-rest c =
     record {
       answer = ap (λ (x : TextError). Err x) (c .no-record .ensures) ∙ ap answerOf read;
       buffer = settled (16 * n) old new (omega arith) (c .loop-rest .inv .1) ∙ ap (λ (x : Reading). placed (codeOf x) old) read;
-      fits = tt;
+      holds-the-code = tt;
     }
 
 pub write-record-requires : need.write-record-requires
@@ -58,5 +58,5 @@ returns c =
     record {
       answer = ap (λ (x : BenchCounts). Ok x) (c .counts .ensures) ∙ ap answerOf read;
       buffer = settled (16 * n) old new (omega arith) (c .loop-rest .inv .1) ∙ ap (λ (x : Reading). placed (codeOf x) old) read;
-      fits = omega (arith, ap (λ (x : BenchCounts). x .records) (c .counts .ensures));
+      holds-the-code = subst (λ (x : BenchCounts). (16 * x .records ≤ length old) × (recordsFrom (c .args .header) 0 [] (lines (c .args .text .now)) ≡ given x (take (16 * x .records) new))) (sym (c .counts .ensures)) (omega arith, sym read);
     }

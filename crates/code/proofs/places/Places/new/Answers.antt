@@ -1,4 +1,3 @@
-use mathlib.Core.Path.{sym}
 use Rattle.code.proofs.Options.{provided-some}
 use Rattle.code.proofs.places.Places.new.Needs as need
 
