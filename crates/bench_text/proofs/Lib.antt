@@ -1,14 +1,14 @@
 -- The lemmas: on the loops, on what each part spells, and on the whole text.
-pub mod Choosing
-pub mod Cutting
-pub mod Hexing
-pub mod Judging
-pub mod Laying
-pub mod Lining
-pub mod Marking
-pub mod Meeting
-pub mod Numbering
-pub mod Placing
-pub mod Recording
-pub mod Rows
-pub mod Valuing
+pub mod ChoiceValues
+pub mod FirstMark
+pub mod HexRecords
+pub mod TextLaw
+pub mod LineLayout
+pub mod LineByLine
+pub mod CutAtMark
+pub mod LineForms
+pub mod DecimalDigits
+pub mod BufferContents
+pub mod RecordBytes
+pub mod RecordLines
+pub mod DecimalNumbers

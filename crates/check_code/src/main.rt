@@ -4,7 +4,7 @@ ghost use Prim.Native.Nat.{_*_, _≤_};
 ghost use lib.ListN.{length, take};
 ghost use Rattle.bench_text.specs.Reading.{answered, given, reading};
 ghost use Rattle.check_code.specs.Reports.{Reports};
-ghost use Rattle.std.specs.Results.{Cases};
+ghost use Rattle.std.specs.Results.{Cases, isOk};
 ghost use Rattle.std.specs.declared.result.Result.the-variants.{Err};
 
 mod report;
@@ -22,7 +22,8 @@ use std::io::Read;
 
 // The report on a text that brings code; the code is put into the buffer.
 fn examine(text: &[u8], buffer: &mut [u8]) -> Result<Report, TextError>
-    ensures { λ r. ⌜ Cases r (Reports (reading (now (text .entry)))) (λ e. Err e ≡ answered (now (text .entry)) (now (buffer .entry))) ⌝ }
+    ensures reports_what_is_read { λ r. ⌜ Cases r (Reports (reading (now (text .entry)))) (λ e. Err e ≡ answered (now (text .entry)) (now (buffer .entry))) ⌝ }
+    ensures refuses_as_the_reader { λ r. ⌜ isOk r ≡ isOk (answered (now (text .entry)) (now (buffer .entry))) ⌝ }
 {
     let counts = read_bench(text, buffer)?;
     Ok(judge(counts, buffer))

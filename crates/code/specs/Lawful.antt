@@ -9,6 +9,7 @@ use lib.Signed.{leZ}
 use Rattle.records.specs.declared.operation.Operation.{Operation}
 use Rattle.records.specs.declared.operation.Operation.the-variants.{Input, Literal, Negate, Add, Subtract, Multiply, Divide}
 
+-- each element is below the next
 abbrev pub ascending : List ℕ → Bool
 ascending [] = true
 ascending (x ∷ []) = true
@@ -37,6 +38,7 @@ argumentRange Subtract = (pos 0, pos 0)
 argumentRange Multiply = (pos 0, pos 0)
 argumentRange Divide = (pos 0, pos 0)
 
+-- an argument within that range
 abbrev pub argumentLawful : Operation → ℤ → Bool
 argumentLawful o z = leZ (argumentRange o .0) z && leZ z (argumentRange o .1)
 

@@ -47,17 +47,21 @@ abbrev pub provided : {X : Type 0} (b : Bool) → (b ≡ true → X) → Option 
 provided true f = Some (f refl)
 provided false f = None
 
+-- what f makes of a value that is there
 abbrev pub andThen : {X Y : Type 0} → Option X → (X → Option Y) → Option Y
 andThen None f = None
 andThen (Some x) f = f x
 
+-- the places that a number of places and four fields hold, if they are lawful
 abbrev pub placesOf : ℕ → List ℕ → Option Places
 placesOf n fs = provided (placesLawful n fs) (λ e. record { count = n; fields = fs; lawful = e })
 
+-- the rear if the number is 255 and the fields are zero, else places
 abbrev pub targetOf : ℕ → List ℕ → Option Target
 targetOf n fs =
     cond (eqb n 255) (provided (allZero fs) (λ _. Rear)) (mapped At (placesOf n fs))
 
+-- a record of these parts, if they go together
 abbrev pub recordOf : Operation → ℕ → ℤ → Target → Option Record
 recordOf o n z t =
     provided (recordLawful o n z) (λ e. record { operation = o; node = n; argument = z; target = t; lawful = e })

@@ -15,6 +15,7 @@ abbrev pub pass : List Bool → List Bool
 pass [] = []
 pass (m ∷ ms) = ms ++ false ∷ []
 
+-- n passes
 abbrev pub passes : ℕ → List Bool → List Bool
 passes zero ms = ms
 passes (suc n) ms = pass (passes n ms)

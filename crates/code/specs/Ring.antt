@@ -5,5 +5,6 @@ use lib.ListN.{take}
 use Rattle.code.specs.Marks.{ringView}
 use Rattle.code.specs.declared.marks.Marks.{Marks}
 
+-- the marks of the places, the front place first
 abbrev pub view : Marks → List Bool
 view m = ringView (m .front) (take (m .places) (m .slots))

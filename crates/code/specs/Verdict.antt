@@ -1,5 +1,5 @@
 -- The checker's answer: which rule a code breaks first, and at which record. Assumes nothing.
-use mathlib.Core.Bool.{Bool, true, false, cond, not, _&&_}
+use mathlib.Core.Bool.{Bool, Bool·beq, true, false, cond, _&&_}
 use mathlib.Core.List.{List, [], _∷_}
 use Prim.Native.Nat.{ℕ, zero, suc, _/_, _%_, min}
 use lib.Dec.{eqb, leb, ltb}
@@ -18,17 +18,13 @@ use Rattle.std.specs.declared.option.Option.the-variants.{Some, None}
 
 -- ---- well-formed code
 
-abbrev pub same : Bool → Bool → Bool
-same true b = b
-same false b = not b
-
 -- code is simple if byte 1 of record 0 says so
 abbrev pub isSimple : List ℕ → Bool
 isSimple code = eqb (byteAt code 1) 255
 
 -- record i, if it is there, laid out well and of the kind of record 0
 abbrev pub lawfulAt : List ℕ → ℕ → Option Record
-lawfulAt code i = andThen (recordAt code i) (λ r. cond (same (isRear (r .target)) (isSimple code)) (Some r) None)
+lawfulAt code i = andThen (recordAt code i) (λ r. cond (Bool·beq (isRear (r .target)) (isSimple code)) (Some r) None)
 
 -- the first of n records that is not lawful
 abbrev pub firstUnlawful : List ℕ → ℕ → Option ℕ
@@ -36,16 +32,20 @@ firstUnlawful code zero = None
 firstUnlawful code (suc n) =
     elim (firstUnlawful code n) [ Some i ↦ Some i | None ↦ cond (isSome (lawfulAt code n)) None (Some n) ]
 
+-- how many whole records a code has
 abbrev pub recordCount : List ℕ → ℕ
 recordCount code = length code / 16
 
+-- nothing is left over after the last record, and there are not too many
 abbrev pub wholeRecords : List ℕ → Bool
 wholeRecords code = eqb (length code % 16) 0 && leb (recordCount code) 1024
 
+-- the answer, by the first record that is not lawful
 abbrev pub allLawful : Option ℕ → Answer (Unit {0})
 allLawful None = granted tt
 allLawful (Some i) = refused 21 i 0
 
+-- the tests that look at no place: length, result count, each record by itself
 abbrev pub wellFormed : List ℕ → ℕ → Answer (Unit {0})
 wellFormed code results =
     cond (wholeRecords code)
@@ -72,6 +72,7 @@ stepMarks i r ms =
     (puts i (placesPut (r .target) (passes (arity (r .operation)) ms)) (passes (arity (r .operation)) ms))
     (refused 22 i 0)
 
+-- the same of a record that may not be lawful
 abbrev pub stepAt : ℕ → Option Record → List Bool → Answer (List Bool)
 stepAt i None ms = refused 21 i 0
 stepAt i (Some r) ms = stepMarks i r ms

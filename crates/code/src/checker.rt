@@ -60,8 +60,8 @@ fn just_front(marks: &Marks, n: usize) -> bool
     front_full(marks, n) && marks.full_count() == n
 }
 
-// Whether the code, run from that many empty places, never takes from an empty or missing place, never puts on
-// a full or missing one, and ends with just that many results at the front.
+// Passes the code, run from that many empty places and to leave that many results, or refuses it by the first rule
+// that it breaks, at the record that breaks it.
 pub fn check(code: &[u8], places: usize, results: usize) -> Result<(), Refusal>
     ensures is_the_verdict { λ r. ⌜ answer r ≡ verdict (now (code .entry)) places results ⌝ }
 {

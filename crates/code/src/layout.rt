@@ -9,6 +9,8 @@ use crate::bytes::i32_at;
 use crate::bytes::u16_at;
 use crate::places::Places;
 use crate::record::Record;
+use crate::sequence::RECORD_BYTES;
+use crate::target::REAR;
 use crate::target::Target;
 use records::Operation;
 
@@ -69,7 +71,7 @@ impl Target {
     pub fn new(count: u8, fields: [u16; 4]) -> Option<Target>
         ensures { λ r. ⌜ r ≡ targetOf count fields ⌝ }
     {
-        if count == 255 {
+        if count == REAR {
             if all_zero(&fields) {
                 return Some(Target::Rear);
             }
@@ -95,7 +97,7 @@ impl Target {
         ensures { λ r. ⌜ r ≡ countByte (now (self .entry)) ⌝ }
     {
         match self {
-            Target::Rear => 255,
+            Target::Rear => REAR,
             Target::At(places) => places.count,
         }
     }
@@ -138,9 +140,7 @@ impl Record {
             target,
         })
     }
-}
 
-impl Record {
     // The record that 16 bytes hold; none if there are not 16 or they are laid out otherwise.
     pub fn read(bytes: &[u8]) -> Option<Record>
         ensures value { λ r. ⌜ r ≡ decode (now (bytes .entry)) ⌝ }
@@ -153,7 +153,7 @@ impl Record {
     fn from_fields(bytes: &[u8]) -> Option<Record>
         ensures { λ r. ⌜ r ≡ decode (now (bytes .entry)) ⌝ }
     {
-        if bytes.len() != 16 {
+        if bytes.len() != RECORD_BYTES {
             return None;
         }
         let Some(operation) = Operation::from_number(bytes[0]) else {

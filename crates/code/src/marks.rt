@@ -11,7 +11,7 @@ pub const MOST_PLACES: usize = 4096;
 
 #[derive(Drop)]
 pub(crate) struct Marks {
-    slots: [bool; 4096],
+    slots: [bool; MOST_PLACES],
     places: usize,
     front: usize,
     full: usize,

@@ -6,6 +6,7 @@ ghost use Rattle.code.specs.Layout.{recordAt};
 ghost use Rattle.code.specs.Verdict.{isSimple, lawfulAt};
 ghost use Rattle.std.specs.declared.option.Option.the-variants.{Some};
 use crate::record::Record;
+use crate::target::REAR;
 
 // The bytes of one record.
 pub const RECORD_BYTES: usize = 16;
@@ -33,7 +34,7 @@ pub fn is_simple(code: &[u8]) -> bool
     if code.len() < 2 {
         return false;
     }
-    code[1] == 255
+    code[1] == REAR
 }
 
 // Record `index`, if it is there, laid out well and of the kind of record 0.

@@ -22,7 +22,7 @@ impl Marks {
         ensures { λ r. ⌜ view r ≡ replicate (min places 4096) false ⌝ }
     {
         Marks {
-            slots: [false; 4096],
+            slots: [false; MOST_PLACES],
             places: at_most_all(places),
             front: 0,
             full: 0,

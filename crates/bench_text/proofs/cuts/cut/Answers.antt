@@ -5,7 +5,7 @@ use mathlib.Core.Path.{_∙_}
 use Prim.Native.Nat.{_+_}
 use lib.ListN.{length}
 use Rattle.std.proofs.shelf.Lists.{take-rest, drop-all}
-use Rattle.bench_text.proofs.Cutting.{met, passed, nowhere}
+use Rattle.bench_text.proofs.FirstMark.{met, passed, nowhere}
 use Rattle.bench_text.proofs.cuts.cut.Needs as need
 
 pub returns-then-b-mark : need.returns-then-b-mark

@@ -1,5 +1,5 @@
 -- The bytes that `cut` has passed hold no mark.
-use Rattle.bench_text.proofs.Cutting.{Unmarked}
+use Rattle.bench_text.proofs.FirstMark.{Unmarked}
 use Rattle.bench_text.proofs.cuts.cut.Given as given
 
 abbrev pub Inv-loop-i : given.InvT-loop-i

@@ -2,7 +2,7 @@
 use mathlib.Core.Path.{_∙_, sym}
 use Rattle.std.proofs.shelf.Lists.{at-drop-all}
 use Rattle.bench_text.specs.Decimal.{decimalFrom}
-use Rattle.bench_text.proofs.Numbering.{no-digit, one-digit}
+use Rattle.bench_text.proofs.DecimalDigits.{no-digit, one-digit}
 use Rattle.bench_text.proofs.decimals.number.Needs as need
 
 pub returns-in-Break-value : need.returns-in-Break-value

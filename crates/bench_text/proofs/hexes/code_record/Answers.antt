@@ -3,7 +3,7 @@ use native.Mathlib.Omega.{arith}
 use mathlib.Core.Path.{_∙_, refl}
 use lib.ListN.{length-set}
 use Rattle.bench_text.specs.Hex.{hexBytes}
-use Rattle.bench_text.proofs.Recording.{spelt-none, long-record, other-record, no-byte, one-byte, all-bytes}
+use Rattle.bench_text.proofs.RecordBytes.{spelt-none, long-record, other-record, no-byte, one-byte, all-bytes}
 use Rattle.bench_text.proofs.hexes.code_record.Needs as need
 
 pub returns-then-line-ne32 : need.returns-then-line-ne32

@@ -8,9 +8,9 @@ use Rattle.std.proofs.shelf.Results.{made-weaker}
 use Rattle.bench_text.specs.declared.answers.Expected.the-variants.{Numbers}
 use Rattle.bench_text.specs.Lines.{lines}
 use Rattle.bench_text.specs.Reading.{refused, recordsFrom}
-use Rattle.bench_text.proofs.Judging.{judged}
-use Rattle.bench_text.proofs.Lining.{parts-fit, whole-text}
-use Rattle.bench_text.proofs.Placing.{at-long}
+use Rattle.bench_text.proofs.TextLaw.{judged}
+use Rattle.bench_text.proofs.LineByLine.{parts-fit, whole-text}
+use Rattle.bench_text.proofs.BufferContents.{at-long}
 use Rattle.bench_text.proofs.texts.read_bench.Needs as need
 
 pub returns-in-rest : need.returns-in-rest

@@ -11,9 +11,9 @@ use Rattle.bench_text.specs.declared.answers.BenchCounts.{BenchCounts}
 use Rattle.bench_text.specs.declared.answers.TextError.{TextError}
 use Rattle.bench_text.specs.Lines.{lines}
 use Rattle.bench_text.specs.Reading.{Reading, given, recordsFrom, answerOf, codeOf, placed}
-use Rattle.bench_text.proofs.Hexing.{record-spelt}
-use Rattle.bench_text.proofs.Lining.{no-record, one-record, shorter}
-use Rattle.bench_text.proofs.Placing.{settled, front-more, back-more}
+use Rattle.bench_text.proofs.HexRecords.{record-spelt}
+use Rattle.bench_text.proofs.LineByLine.{no-record, one-record, shorter}
+use Rattle.bench_text.proofs.BufferContents.{settled, front-more, back-more}
 use Rattle.bench_text.proofs.texts.read_records.Needs as need
 
 pub returns-in-rest : need.returns-in-rest

@@ -10,9 +10,9 @@ use Rattle.std.proofs.shelf.Lists.{append-cancel-right}
 use Rattle.bench_text.specs.Cut.{before, after}
 use Rattle.bench_text.specs.Lines.{lines}
 use Rattle.bench_text.specs.Spelling.{ended, Laid, Free, Ends}
-use Rattle.bench_text.proofs.Choosing.{clash}
-use Rattle.bench_text.proofs.Lining.{lines-step}
-use Rattle.bench_text.proofs.Marking.{before-free, rejoined, cut-marked, cut-free}
+use Rattle.bench_text.proofs.ChoiceValues.{clash}
+use Rattle.bench_text.proofs.LineByLine.{lines-step}
+use Rattle.bench_text.proofs.CutAtMark.{before-free, rejoined, cut-marked, cut-free}
 
 -- a line that is not empty
 abbrev pub Whole : List ℕ → Type 0

@@ -18,7 +18,7 @@ use Rattle.bench_text.specs.Heading.{headerOf}
 use Rattle.bench_text.specs.Hex.{hexBytes, hexRecord}
 use Rattle.bench_text.specs.Lines.{begun, lines}
 use Rattle.bench_text.specs.Reading.{refused, recordsFrom, linesRead, reading}
-use Rattle.bench_text.proofs.Choosing.{clash}
+use Rattle.bench_text.proofs.ChoiceValues.{clash}
 
 -- the first line of a text that is not empty, and the lines after it
 pub lines-step : (text : List ℕ) → 0 < length text → lines text ≡ before 10 text ∷ lines (after 10 text)

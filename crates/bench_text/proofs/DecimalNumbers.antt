@@ -11,7 +11,7 @@ use Rattle.std.proofs.shelf.Ways.{tells}
 use Rattle.bench_text.specs.Choice.{choose}
 use Rattle.bench_text.specs.Decimal.{decimalMore, decimalFrom, decimalNumber}
 use Rattle.bench_text.specs.Spelling.{SpellsNumber}
-use Rattle.bench_text.proofs.Choosing.{chosen, clash}
+use Rattle.bench_text.proofs.ChoiceValues.{chosen, clash}
 
 digit-read : (n c m : ℕ) → decimalMore n c ≡ Some m → (digitValue c < 10) × (n * 10 + digitValue c ≡ m) × (m < 2 ^ 64)
 digit-read n c m e = grind (arith, tells)

@@ -12,9 +12,9 @@ use Rattle.std.proofs.shelf.Ways.{tells}
 use Rattle.bench_text.specs.Choice.{choose}
 use Rattle.bench_text.specs.Hex.{hexDigit, hexByte, hexBytes, hexRecord}
 use Rattle.bench_text.specs.Spelling.{hexOf, SpellsRecord}
-use Rattle.bench_text.proofs.Choosing.{chosen, clash}
-use Rattle.bench_text.proofs.Lining.{record-length}
-use Rattle.bench_text.proofs.Recording.{long-record}
+use Rattle.bench_text.proofs.ChoiceValues.{chosen, clash}
+use Rattle.bench_text.proofs.LineByLine.{record-length}
+use Rattle.bench_text.proofs.RecordBytes.{long-record}
 
 digit-spelt : (c d : ℕ) → hexDigit c ≡ Some d → (c ≡ glyph false d) × (d < 16)
 digit-spelt c d e = grind (arith, tells)

@@ -21,12 +21,12 @@ use Rattle.bench_text.specs.Reading.{Reading, given, refused, countsOf, linesR
 use Rattle.bench_text.specs.Spelling.{SpellsRecord, Spells, Meets, Formed, due, Refuses, Free, Ends, ended, Tells, Judges}
 use Rattle.std.proofs.shelf.Lists.{nil-from-length}
 use Rattle.std.proofs.shelf.Tests.{cases-lt}
-use Rattle.bench_text.proofs.Choosing.{cases-option, clash}
-use Rattle.bench_text.proofs.Laying.{Whole, lines-laid, laid-lines, no-lines, all-free, stands, lines-stand}
-use Rattle.bench_text.proofs.Lining.{at-header}
-use Rattle.bench_text.proofs.Meeting.{header-spelt, header-read, numbers-whole, record-whole}
-use Rattle.bench_text.proofs.Placing.{at-short, at-long}
-use Rattle.bench_text.proofs.Rows.{records-spelt, records-read, records-refused, records-bad}
+use Rattle.bench_text.proofs.ChoiceValues.{cases-option, clash}
+use Rattle.bench_text.proofs.LineLayout.{Whole, lines-laid, laid-lines, no-lines, all-free, stands, lines-stand}
+use Rattle.bench_text.proofs.LineByLine.{at-header}
+use Rattle.bench_text.proofs.LineForms.{header-spelt, header-read, numbers-whole, record-whole}
+use Rattle.bench_text.proofs.BufferContents.{at-short, at-long}
+use Rattle.bench_text.proofs.RecordLines.{records-spelt, records-read, records-refused, records-bad}
 
 spelt-lines : (text : List ℕ) (counts : BenchCounts) (code : List ℕ) (ls : List (List ℕ)) → lines text ≡ ls → linesRead ls ≡ given counts code → Spells text counts code
 spelt-lines text counts code [] split e = clash (cc)

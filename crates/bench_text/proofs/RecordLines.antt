@@ -17,8 +17,8 @@ use Rattle.bench_text.specs.Choice.{choose}
 use Rattle.bench_text.specs.Hex.{hexRecord}
 use Rattle.bench_text.specs.Reading.{given, refused, countsOf, recordsFrom}
 use Rattle.bench_text.specs.Spelling.{SpellsRecord, Meets}
-use Rattle.bench_text.proofs.Choosing.{cases-option, clash}
-use Rattle.bench_text.proofs.Hexing.{record-spelt, record-read}
+use Rattle.bench_text.proofs.ChoiceValues.{cases-option, clash}
+use Rattle.bench_text.proofs.HexRecords.{record-spelt, record-read}
 
 -- one line of the records, as it was read
 at-record : (h : Header) (n : ℕ) (code l : List ℕ) (ls : List (List ℕ)) (o : Option (List ℕ)) → hexRecord l ≡ o → recordsFrom h n code (l ∷ ls) ≡ choose o (refused (n + 2) Record code) (λ bytes. recordsFrom h (n + 1) (code ++ bytes) ls)

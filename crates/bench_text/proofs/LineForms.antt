@@ -18,10 +18,10 @@ use Rattle.bench_text.specs.Cut.{before, after}
 use Rattle.bench_text.specs.Decimal.{decimalNumber}
 use Rattle.bench_text.specs.Heading.{headerOf}
 use Rattle.bench_text.specs.Spelling.{SpellsNumbers, SpellsRecord, hexOf, Free}
-use Rattle.bench_text.proofs.Choosing.{chosen}
-use Rattle.bench_text.proofs.Laying.{Whole}
-use Rattle.bench_text.proofs.Marking.{rejoined, cut-marked}
-use Rattle.bench_text.proofs.Valuing.{number-spelt, number-read}
+use Rattle.bench_text.proofs.ChoiceValues.{chosen}
+use Rattle.bench_text.proofs.LineLayout.{Whole}
+use Rattle.bench_text.proofs.CutAtMark.{rejoined, cut-marked}
+use Rattle.bench_text.proofs.DecimalNumbers.{number-spelt, number-read}
 
 -- a mark below the digits is none of them
 digits-free : (mark : ℕ) (ds : List ℕ) → mark < 48 → Digits 10 ds → Free mark ds
