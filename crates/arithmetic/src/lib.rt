@@ -1,4 +1,6 @@
 // Arithmetics: values as words, and operations that answer a value or a fault. Whole numbers, and dimensions.
+#![tactic(auto)]
+
 mod arithmetic_trait;
 mod dimension;
 mod dimensions;

@@ -1,4 +1,6 @@
 // Worked examples as proved statements, and tests by table over the other crates.
+#![tactic(auto)]
+
 #[cfg(test)]
 mod bench_text_tests;
 #[cfg(test)]

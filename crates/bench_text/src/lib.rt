@@ -1,4 +1,6 @@
 // Reads the text form in which a test bench hands over queue code.
+#![tactic(auto)]
+
 mod answers;
 mod cuts;
 mod decimals;

@@ -1,4 +1,6 @@
 // Reads queue code in hex from standard input and prints what the checker says of it.
+#![tactic(auto)]
+
 ghost use Rattle.std.specs.Prelude.{◌≡◌, ◌*◌, ◌≤◌, length, take, is_ok, Err, MatchResult};
 ghost use Rattle.bench_text.specs.Reading.{answered, given, reading};
 ghost use Rattle.check_code.specs.Reports.{Reports};

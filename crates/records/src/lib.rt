@@ -1,4 +1,6 @@
 // The plain types that every part shares: operations, faults, refusals.
+#![tactic(auto)]
+
 mod fault;
 mod operation;
 mod reason;

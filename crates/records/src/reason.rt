@@ -1,6 +1,7 @@
 // Why a call is turned away: one case for each of the thirty refusals.
-ghost use Rattle.std.specs.Prelude.{◌≡◌, Decides};
+ghost use Rattle.std.specs.Prelude.{◌≡◌, Decides, nat_eq};
 ghost use Rattle.records.specs.Refusals.{fault_number, reason_number, reason_numbers};
+ghost use Rattle.std.specs.Ordering.{eq_of_both, on};
 ghost use Rattle.std.specs.Cmp.Rules.{comparing};
 ghost use Rattle.std.proofs.Common.{rules};
 
@@ -99,11 +100,14 @@ impl Reason {
 }
 
 impl PartialEq for Reason {
-    ghost equals = { λ x y r. Decides r (reason_numbers x ≡ reason_numbers y) };
+    ghost eq = { eq_of_both (on reason_number nat_eq) (on fault_number nat_eq) };
 
     ghost laws = { Prim.search (comparing, rules) };
 
-    fn eq(&self, other: &Reason) -> bool {
+    fn eq(&self, other: &Reason) -> bool
+        ensures value { result ≡ eq_of_both (on reason_number nat_eq) (on fault_number nat_eq) self.now other.now }
+        ensures decides { Decides result (reason_numbers self.now ≡ reason_numbers other.now) }
+    {
         self.number() == other.number() && self.fault_number() == other.fault_number()
     }
 }

@@ -1,4 +1,6 @@
 // A ring: slots seen as places from a front that moves on, so that a pass copies nothing.
+#![tactic(auto)]
+
 mod ring;
 
 pub use ring::Ring;
