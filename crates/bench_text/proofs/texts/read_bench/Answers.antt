@@ -9,15 +9,15 @@ use Rattle.bench_text.proofs.LineByLine.{parts_fit, whole_text}
 use Rattle.bench_text.proofs.BufferContents.{at_long}
 use Rattle.bench_text.proofs.texts.read_bench.Goals as goal
 
-pub returns-in-default : goal.returns-in-default
-returns-in-default c =
+pub returns-in_default : goal.returns-in_default
+returns-in_default c =
     let text = c.args.text.now in
     let old = c.args.code.now in
-    let same = at_long text old (refused 1 Numbers []) (omega arith) (whole_text text _ _ c.cut.ensures.front c.cut.ensures.back None c.in-default.ensures) in
-    record { answer = same.0; buffer = same.1; holds-the-code = tt; judges-the-text = judged text old old _ same.0 same.1 }
+    let same = at_long text old (refused 1 Numbers []) (omega arith) (whole_text text _ _ c.cut.ensures.front c.cut.ensures.back None c.in_default.ensures) in
+    record { answer = same.0; buffer = same.1; holds_the_code = tt; judges_the_text = judged text old old _ same.0 same.1 }
 
-pub read-records-requires : goal.read-records-requires
-read-records-requires c = omega (arith, parts_fit 10 c.args.text.now, ap length c.cut.ensures.back)
+pub read_records-requires : goal.read_records-requires
+read_records-requires c = omega (arith, parts_fit 10 c.args.text.now, ap length c.cut.ensures.back)
 
 pub returns : goal.returns
 returns c =
@@ -26,6 +26,6 @@ returns c =
     let head = c.in-Some.header in
     let read = whole_text text _ _ c.cut.ensures.front c.cut.ensures.back (Some head) c.in-Some.ensures in
     let same = at_long text old (records_from head 0 [] (lines c.cut.result.1.now)) (omega arith) read in
-    let answer = c.read-records.ensures.answer ∙ same.0 in
-    let buffer = c.read-records.ensures.buffer ∙ same.1 in
-    record { answer = answer; buffer = buffer; holds-the-code = IfOk-weaker c.read-records.result _ _ (λ n h. (h.0, read ∙ h.1)) c.read-records.ensures.holds-the-code; judges-the-text = judged text old _ _ answer buffer }
+    let answer = c.read_records.ensures.answer ∙ same.0 in
+    let buffer = c.read_records.ensures.buffer ∙ same.1 in
+    record { answer = answer; buffer = buffer; holds_the_code = IfOk-weaker c.read_records.result _ _ (λ n h. (h.0, read ∙ h.1)) c.read_records.ensures.holds_the_code; judges_the_text = judged text old _ _ answer buffer }
