@@ -4,4 +4,4 @@ use Rattle.code.specs.Ring.{view}
 use Rattle.code.proofs.walk.pass_all.Given as goal
 
 abbrev pub invariant-loop-passed : goal.invariant-loop-passed
-invariant-loop-passed l = view l.marks ≡ passes l.-passed (view l.initial.marks)
+invariant-loop-passed l = view l.marks ≡ passes l._passed (view l.initial.marks)

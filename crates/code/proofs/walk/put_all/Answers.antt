@@ -7,16 +7,16 @@ use Rattle.std.proofs.lemmas.List.{at_drop_all}
 use Rattle.std.proofs.lemmas.Result.{err_from_is_err_and}
 use Rattle.code.proofs.walk.put_all.Goals as goal
 
-pub returns-in-err-put-on : goal.returns-in-err-put-on
-returns-in-err-put-on c =
-    let p = err_from_is_err_and c.from-residual.result c.from-residual.ensures.1 in
-    ap (λ r. outcome r (view c.put-on.new.marks)) p.1 ∙ ap refusal_answer p.2
-    ∙ sym (puts_at c.args.index c.loop-place.place-index c.args.places.now (view c.loop-place.marks) (refusal_answer c.in-err-put-on.field-0.0) (omega arith) c.in-err-put-on.ensures)
+pub returns-in_err-put_on : goal.returns-in_err-put_on
+returns-in_err-put_on c =
+    let p = err_from_is_err_and c.from_residual.result c.from_residual.ensures.1 in
+    ap (λ r. outcome r (view c.put_on.new.marks)) p.1 ∙ ap refusal_answer p.2
+    ∙ sym (puts_at c.args.index c.loop-place.place-index c.args.places.now (view c.loop-place.marks) (refusal_answer c.in_err-put_on.field-0.0) (omega arith) c.in_err-put_on.ensures)
     ∙ c.loop-place.invariant
 
 pub loop-place-preserved : goal.loop-place-preserved
 loop-place-preserved c =
-    sym (puts_at c.args.index c.loop-place.place-index c.args.places.now (view c.loop-place.marks) _ (omega arith) c.in-ok-put-on.ensures)
+    sym (puts_at c.args.index c.loop-place.place-index c.args.places.now (view c.loop-place.marks) _ (omega arith) c.in_ok-put_on.ensures)
     ∙ c.loop-place.invariant
 
 pub returns : goal.returns

@@ -10,21 +10,18 @@ bounds-self-slot c =
     let m = c.args.self.now in
     slot_small m c.args.k c.slot-slot.result (omega (arith, c.requires.within, view_long m)) c.slot-slot.ensures
 
-pub overflow-add-self : goal.overflow-add-self
-overflow-add-self c = record { fits = omega (arith, few_full c.args.self.now) }
+pub overflow_add-self : goal.overflow_add-self
+overflow_add-self c = record { fits = omega (arith, few_full c.args.self.now) }
 
-pub invariant-of-self : goal.invariant-of-self
-invariant-of-self c =
-    let m = c.args.self.now in (
-      m.few,
-      (
-        m.front_within,
-        (
-          length-set m.slots c.slot-slot.result true ∙ m.long,
-          (put_counts m c.args.k c.slot-slot.result (omega (arith, c.requires.within, view_long m)) c.slot-slot.ensures c.requires.empty, tt),
-        ),
-      ),
-    )
+pub invariant_of-self : goal.invariant_of-self
+invariant_of-self c =
+    let m = c.args.self.now in
+    record {
+      few = m.few;
+      front_within = m.front_within;
+      long = length-set m.slots c.slot-slot.result true ∙ m.long;
+      counted = put_counts m c.args.k c.slot-slot.result (omega (arith, c.requires.within, view_long m)) c.slot-slot.ensures c.requires.empty;
+    }
 
 pub returns : goal.returns
 returns c =

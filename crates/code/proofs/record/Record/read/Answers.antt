@@ -4,6 +4,6 @@ use Rattle.code.proofs.record.Record.read.Goals as goal
 pub returns : goal.returns
 returns c =
     record {
-      value = c.from-fields.ensures;
-      the-record-of-that-layout = reading_law c.args.bytes.now (λ i. (c.type-inv.bytes i).fits) c.from-fields.result c.from-fields.ensures;
+      value = c.from_fields.ensures;
+      the_record_of_that_layout = reading_law c.args.bytes.now (λ i. (c.type_inv.bytes i).fits) c.from_fields.result c.from_fields.ensures;
     }

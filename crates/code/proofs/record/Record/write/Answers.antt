@@ -5,4 +5,4 @@ use Rattle.code.proofs.record.Record.write.Goals as goal
 
 pub returns : goal.returns
 returns c =
-    record { value = c.to-fields.ensures; reads_back = ap decode c.to-fields.ensures ∙ reads_back c.args.self.now }
+    record { value = c.to_fields.ensures; reads_back = ap decode c.to_fields.ensures ∙ reads_back c.args.self.now }
