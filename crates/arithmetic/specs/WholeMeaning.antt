@@ -1,7 +1,7 @@
 -- The arithmetic of whole numbers, in integers. Assumes nothing.
 use borrow.Author.Gap.{read_sfits}
 use Rattle.std.proofs.Common.{le-leb, ap, arith, of_z, to_z}
-use Rattle.std.specs.Prelude.{◌≡◌, ℕ, ◌%◌, ◌^◌, true, cond, ◌&&◌, ℤ, pos, negsuc, ◌+ℤ◌, ◌-ℤ◌, ◌*ℤ◌, neg_ℤ, Ok, Err, Option, Result, FitsSigned, ◌==◌, int_div, unsigned_abs}
+use Rattle.std.specs.Prelude.{◌≡◌, ℕ, ◌%◌, ◌^◌, true, cond, ◌&&◌, ℤ, pos, negsuc, ◌+ℤ◌, ◌-ℤ◌, ◌*ℤ◌, neg_ℤ, Err, Option, Result, FitsSigned, ◌==◌, int_div, unsigned_abs}
 use Rattle.std.specs.Int.{w32}
 use Rattle.arithmetic.specs.Meaning.{Meaning}
 use Rattle.arithmetic.specs.Ranges.{is_whole, provided}

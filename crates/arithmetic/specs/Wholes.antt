@@ -1,5 +1,5 @@
 -- Exact results that a whole number has, or has not. Assumes nothing.
-use Rattle.std.specs.Prelude.{◌≡◌, ◌%◌, ◌<◌, true, false, ℤ, pos, negsuc, Some, None, Ok, Err, Option, FitsSigned, ◌==◌, ◌≢◌, int_div, unsigned_abs}
+use Rattle.std.specs.Prelude.{◌≡◌, ◌%◌, ◌<◌, true, ℤ, pos, negsuc, Some, None, Ok, Err, Option, FitsSigned, ◌==◌, ◌≢◌, int_div, unsigned_abs}
 use Rattle.std.proofs.Math.Bool.{Bool-set}
 use Rattle.std.proofs.Common.{⊎_elim, ap, subst, sym, ◌∙◌, arith, to_z-of_z, of_z, to_z}
 use Rattle.std.proofs.Math.Facts.{Fits-of_z}

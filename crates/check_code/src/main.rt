@@ -12,6 +12,7 @@ use bench_text::{BenchCounts, TextError, read_bench};
 use code::{RECORD_BYTES, check};
 use report::Report;
 use std::io::Read;
+use std::process::ExitCode;
 
 // The report on a text that brings code; the code is put into the buffer.
 fn examine(text: &[u8], buffer: &mut [u8]) -> Result<Report, TextError>
@@ -50,10 +51,10 @@ fn run(rt: &HostRuntime) -> anyhow::Result<()> {
     }
 }
 
-fn main(rt: HostRuntime) -> anyhow::Result<()> {
+fn main(rt: HostRuntime) -> anyhow::Result<ExitCode> {
     let Err(error) = run(&rt) else {
-        return Ok(());
+        return Ok(ExitCode::SUCCESS);
     };
     eprintln!(rt; "{error}")?;
-    Err(error)
+    Ok(ExitCode::FAILURE)
 }

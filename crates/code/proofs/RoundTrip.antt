@@ -1,5 +1,5 @@
 -- Reading undoes writing, and writing undoes reading. Assumes nothing.
-use Rattle.std.proofs.Common.{◌≡◌, ℕ, zero, suc, ◌+◌, ◌-◌, ◌*◌, ◌/◌, ◌%◌, ◌<◌, true, false, eqb, ltb, leb, List, [], ◌∷◌, ◌++◌, length, get_or, drop, ℤ, pos, negsuc, Some, None, Option, sym, refl, ap, ◌∙◌, ⊎_elim, arith, lit<, w32, SFits, to_z, of_z, MatchOption}
+use Rattle.std.proofs.Common.{◌≡◌, ℕ, zero, suc, ◌+◌, ◌*◌, ◌/◌, ◌%◌, ◌<◌, true, eqb, ltb, leb, List, [], ◌∷◌, ◌++◌, length, get_or, drop, ℤ, pos, negsuc, Some, None, Option, sym, refl, ap, ◌∙◌, ⊎_elim, arith, lit<, w32, SFits, to_z, of_z, MatchOption}
 use native.Mathlib.Nat.{div-div-eq-div-mul}
 use lib.Signed.{mag, le_z}
 use Rattle.code.proofs.Options.{and_then_at, cond_at, mapped_at, provided_at, provided_some}

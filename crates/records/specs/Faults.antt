@@ -1,5 +1,4 @@
 -- The faults that an arithmetic of this product answers, by their numbers. Assumes nothing.
-use Rattle.std.specs.Prelude.{ℕ}
 use Rattle.std.proofs.Common.{lit≤}
 use Rattle.records.specs.declared.fault.Fault.{Fault}
 

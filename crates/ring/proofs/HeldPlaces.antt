@@ -1,11 +1,11 @@
 -- The places of a ring over slots: how many, what a look and a write meet, what a turn makes of them. Assumes nothing.
-use Rattle.std.proofs.Common.{◌≡◌, ℕ, ◌+◌, ◌-◌, ◌<◌, ◌≤◌, max, true, false, cond, ltb, ◌⊎◌, List, [], length, get_or, take, set, Some, None, Option, sym, ap, ◌∙◌, inl, inr, ⊎_elim, append-nil, arith, length-set, MatchOption}
+use Rattle.std.proofs.Common.{◌≡◌, ℕ, ◌+◌, ◌-◌, ◌<◌, ◌≤◌, cond, ltb, ◌⊎◌, List, length, get_or, take, set, Some, None, Option, sym, ap, ◌∙◌, inl, inr, ⊎_elim, append-nil, arith, length-set, MatchOption}
 use lib.Seq.{take-set-lt}
 use Rattle.ring.proofs.RingViews.{view_length, view_before, view_after, set_before, set_after, view_turn, view_over}
 use Rattle.ring.specs.Held.{held}
 use Rattle.ring.specs.Views.{ring_view, shifted, slot_of, next_front}
 use Rattle.ring.specs.declared.ring.Ring.{Ring}
-use Rattle.std.proofs.lemmas.List.{get_or-take, length-take-le, nil_from_length, take_all}
+use Rattle.std.proofs.lemmas.List.{get_or-take, length-take-le, nil_from_length}
 use Rattle.std.proofs.lemmas.Bool.{cases_eq, cases_lt, cases_Bool, cond-false, cond-true, le-ltb, lt-ltb, ltb-false, ltb-true}
 
 -- where a slot is found, its place is there

@@ -1,5 +1,5 @@
 -- A ring seen from its front: its length, its elements, a write, a turn. Assumes nothing.
-use Rattle.std.proofs.Common.{◌≡◌, ℕ, ◌+◌, ◌-◌, ◌<◌, ◌≤◌, List, [], ◌∷◌, ◌++◌, length, get_or, take, drop, set, sym, ap, ◌∙◌, append_assoc, append-nil, arith, length-append, length-drop, length-set}
+use Rattle.std.proofs.Common.{◌≡◌, ℕ, ◌+◌, ◌-◌, ◌<◌, ◌≤◌, List, [], ◌∷◌, ◌++◌, length, get_or, take, drop, set, sym, ap, ◌∙◌, append_assoc, append-nil, arith, length-append, length-drop}
 use lib.Seq.{take-set-lt}
 use Rattle.ring.specs.Views.{ring_view, shifted}
 use Rattle.std.proofs.lemmas.List.{drop_all, drop_more, drop-set-add, drop-set-lt, get_or_append_left, get_or-append_right, get_or-drop, get_or-take, set-append_left, set-append_right, take_all, take_more_set, take-set-le, length-take-le}

@@ -9,4 +9,4 @@ returns-in-Some c z found =
 
 pub returns-in-None : goal.returns-in-None
 returns-in-None c z found =
-    ap Err c.out-of-range.ensures ∙ exact_missing z (subst (λ (o : Option ℤ). SomeIff o (SFits w32 z) z) c.in-None.is found)
+    ap Err c.out_of_range.ensures ∙ exact_missing z (subst (λ (o : Option ℤ). SomeIff o (SFits w32 z) z) c.in-None.is found)

@@ -5,4 +5,4 @@ use Rattle.arithmetic.proofs.whole_numbers.WholeNumbersArithmetic.unpack.Goals a
 pub returns : goal.returns
 returns c =
     same_whole _ _
-    (c.new.ensures ∙ to_z-of_z {w = w32} (record { sfits = c.cast-signed.type-inv }) ∙ c.cast-signed.ensures ∙ ap (to_z w32) c.low-bits.ensures)
+    (c.new.ensures ∙ to_z-of_z {w = w32} (record { sfits = c.cast_signed.type_inv }) ∙ c.cast_signed.ensures ∙ ap (to_z w32) c.low_bits.ensures)

@@ -7,5 +7,5 @@ returns c =
     record {
       size = refl;
       front = refl;
-      as-they-stand = λ xs e. append-nil (take c.args.size xs) ∙ take_all c.args.size xs (omega arith);
+      as_they_stand = λ xs e. append-nil (take c.args.size xs) ∙ take_all c.args.size xs (omega arith);
     }

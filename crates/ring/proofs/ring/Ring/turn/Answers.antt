@@ -5,7 +5,7 @@ use Rattle.ring.proofs.ring.Ring.turn.Goals as goal
 pub returns : goal.returns
 returns c =
     record {
-      size = c.move-on.ensures.size;
-      front = c.move-on.ensures.front;
-      shifts = λ xs v e. held_turned c.args.self.now xs (omega arith) c.move-on.new.self c.move-on.ensures.size c.move-on.ensures.front v;
+      size = c.move_on.ensures.size;
+      front = c.move_on.ensures.front;
+      shifts = λ xs v e. held_turned c.args.self.now xs (omega arith) c.move_on.new.self c.move_on.ensures.size c.move_on.ensures.front v;
     }
