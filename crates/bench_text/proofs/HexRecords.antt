@@ -1,7 +1,7 @@
 -- A code record is read just where hex digits spell it.
 use Rattle.std.proofs.Common.{◌≡◌, ℕ, suc, ◌+◌, ◌*◌, ◌/◌, ◌%◌, ◌<◌, false, List, [], ◌∷◌, length, Some, None, sym, refl, ap, ◌∙◌, subst, arith}
 use Rattle.std.specs.Fmt.{digit_glyph}
-use Rattle.std.specs.List.{AllByRecursion as All}
+use Rattle.std.specs.List.{AllByRecursion}
 use Rattle.std.proofs.lemmas.Bool.Decides.{nat_tests}
 use Rattle.bench_text.specs.Choice.{choose}
 use Rattle.bench_text.specs.Hex.{hex_digit, hex_byte, hex_bytes, hex_record}
@@ -32,7 +32,7 @@ byte_read b small =
     let whole : b / 16 * 16 + b % 16 ≡ b = omega arith in
     (λ i. choose (digit_read (b / 16) (omega arith) i) None (λ high. choose (digit_read (b % 16) (omega arith) i) None (λ low. Some (high * 16 + low)))) ∙ ap (λ (x : ℕ). Some x) whole
 
-bytes_spelt : (ds bytes : List ℕ) → hex_bytes ds ≡ Some bytes → (ds ≡ hex_of bytes) × All (λ b. b < 256) bytes × (length ds ≡ 2 * length bytes)
+bytes_spelt : (ds bytes : List ℕ) → hex_bytes ds ≡ Some bytes → (ds ≡ hex_of bytes) × AllByRecursion (λ b. b < 256) bytes × (length ds ≡ 2 * length bytes)
 bytes_spelt [] [] e = (refl, tt, refl)
 bytes_spelt [] (b ∷ bytes) e = clash (cc)
 bytes_spelt (h ∷ []) bytes e = clash (cc)
@@ -42,9 +42,9 @@ bytes_spelt (h ∷ l ∷ ds) bytes e =
     let whole : head.0 ∷ tail.0 ≡ bytes = let s = tail.2 in cc in
     let here = byte_spelt h l head.0 head.1 in
     let more = bytes_spelt ds tail.0 tail.1 in
-    subst (λ (x : List ℕ). (h ∷ l ∷ ds ≡ hex_of x) × All (λ b. b < 256) x × (suc (suc (length ds)) ≡ 2 * length x)) whole ((λ i. here.0 i ∷ here.1 i ∷ more.0 i), (here.2, more.1), omega (arith, more.2))
+    subst (λ (x : List ℕ). (h ∷ l ∷ ds ≡ hex_of x) × AllByRecursion (λ b. b < 256) x × (suc (suc (length ds)) ≡ 2 * length x)) whole ((λ i. here.0 i ∷ here.1 i ∷ more.0 i), (here.2, more.1), omega (arith, more.2))
 
-bytes_read : (bytes : List ℕ) → All (λ b. b < 256) bytes → hex_bytes (hex_of bytes) ≡ Some bytes
+bytes_read : (bytes : List ℕ) → AllByRecursion (λ b. b < 256) bytes → hex_bytes (hex_of bytes) ≡ Some bytes
 bytes_read [] small = refl
 bytes_read (b ∷ bytes) small =
     λ i. choose (byte_read b small.0 i) None (λ x. choose (bytes_read bytes small.1 i) None (λ more. Some (x ∷ more)))

@@ -1,6 +1,6 @@
 -- Which lines a text has, by how it is laid out.
 use Rattle.std.proofs.Common.{◌≡◌, ℕ, ◌<◌, List, [], ◌∷◌, ◌++◌, length, sym, refl, ap, ◌∙◌, subst, inl, inr, ⊎_elim, append_assoc, append-nil, arith, length-append}
-use Rattle.std.specs.List.{AllByRecursion as All}
+use Rattle.std.specs.List.{AllByRecursion}
 use Rattle.std.proofs.lemmas.List.{append_cancel_right}
 use Rattle.bench_text.specs.Cut.{before, after}
 use Rattle.bench_text.specs.Lines.{lines}
@@ -23,7 +23,7 @@ line_alone l whole =
     let parts = cut_free 10 l whole.1 in
     lines_step l whole.0 ∙ (λ i. parts.0 i ∷ lines (parts.1 i))
 
-pub lines-ended : (front : List (List ℕ)) (rest : List ℕ) → All (Free 10) front → lines (ended front ++ rest) ≡ front ++ lines rest
+pub lines-ended : (front : List (List ℕ)) (rest : List ℕ) → AllByRecursion (Free 10) front → lines (ended front ++ rest) ≡ front ++ lines rest
 lines-ended [] rest free = refl
 lines-ended (l ∷ front) rest free =
     ap lines (append_assoc l (10 ∷ ended front) rest) ∙ line_first l (ended front ++ rest) free.0 ∙ ap (λ (x : List (List ℕ)). l ∷ x) (lines-ended front rest free.1)
@@ -34,7 +34,7 @@ last_newline l (m ∷ ls) =
     let more = last_newline m ls in
     (l ++ (10 ∷ more.0), ap (λ (x : List ℕ). l ++ (10 ∷ x)) more.1 ∙ sym (append_assoc l (10 ∷ more.0) (10 ∷ [])))
 
-lines_open : (text l : List ℕ) (ls : List (List ℕ)) → All Whole (l ∷ ls) → text ++ (10 ∷ []) ≡ ended (l ∷ ls) → lines text ≡ l ∷ ls
+lines_open : (text l : List ℕ) (ls : List (List ℕ)) → AllByRecursion Whole (l ∷ ls) → text ++ (10 ∷ []) ≡ ended (l ∷ ls) → lines text ≡ l ∷ ls
 unfolding last_newline
 lines_open text l [] whole e = ap lines (append_cancel_right text l (10 ∷ []) e) ∙ line_alone l whole.0
 lines_open text l (m ∷ ls) whole e =
@@ -42,11 +42,11 @@ lines_open text l (m ∷ ls) whole e =
     let same = append_cancel_right text (l ++ (10 ∷ more.0)) (10 ∷ []) (e ∙ (last_newline l (m ∷ ls)).1) in
     ap lines same ∙ line_first l more.0 whole.0.1 ∙ ap (λ (x : List (List ℕ)). l ∷ x) (lines_open more.0 m ls whole.1 (sym more.1))
 
-pub all_free : (ls : List (List ℕ)) → All Whole ls → All (Free 10) ls
+pub all_free : (ls : List (List ℕ)) → AllByRecursion Whole ls → AllByRecursion (Free 10) ls
 all_free [] whole = tt
 all_free (l ∷ ls) whole = (whole.0.1, all_free ls whole.1)
 
-pub lines_laid : (text l : List ℕ) (ls : List (List ℕ)) → All Whole (l ∷ ls) → Laid text (l ∷ ls) → lines text ≡ l ∷ ls
+pub lines_laid : (text l : List ℕ) (ls : List (List ℕ)) → AllByRecursion Whole (l ∷ ls) → Laid text (l ∷ ls) → lines text ≡ l ∷ ls
 lines_laid text l ls whole laid =
     ⊎_elim (λ e. ap lines (e ∙ sym (append-nil (ended (l ∷ ls)))) ∙ lines-ended (l ∷ ls) [] (all_free (l ∷ ls) whole) ∙ append-nil (l ∷ ls)) (lines_open text l ls whole) laid
 
@@ -109,7 +109,7 @@ stands (l ∷ front) line more text e =
     (rejoined 10 text)
 
 -- and back
-pub lines_stand : (text : List ℕ) (front : List (List ℕ)) (line rest : List ℕ) → text ≡ ended front ++ (line ++ rest) → All (Free 10) front → 0 < length (line ++ rest) → Free 10 line → Ends rest → (more : List (List ℕ)) × (lines text ≡ front ++ (line ∷ more))
+pub lines_stand : (text : List ℕ) (front : List (List ℕ)) (line rest : List ℕ) → text ≡ ended front ++ (line ++ rest) → AllByRecursion (Free 10) front → 0 < length (line ++ rest) → Free 10 line → Ends rest → (more : List (List ℕ)) × (lines text ≡ front ++ (line ∷ more))
 lines_stand text front line [] laid free there single ends =
     let whole : Whole line = (omega (arith, length-append line [], there), single) in
     ([], ap lines (laid ∙ ap (λ (x : List ℕ). ended front ++ x) (append-nil line)) ∙ lines-ended front line free ∙ ap (λ (x : List (List ℕ)). front ++ x) (line_alone line whole))

@@ -1,6 +1,6 @@
 -- A text is read just where it spells what is read, and refused just at the first line that is not of the form.
 use Rattle.std.proofs.Common.{◌≡◌, ℕ, ◌+◌, ◌/◌, ◌<◌, ◌≤◌, List, [], ◌∷◌, ◌++◌, length, Some, None, Err, Result, sym, refl, ap, ◌∙◌, subst, ⊎_elim, arith}
-use Rattle.std.specs.List.{AllZip, AllByRecursion as All}
+use Rattle.std.specs.List.{AllZip, AllByRecursion}
 use Rattle.bench_text.specs.declared.answers.BenchCounts.{BenchCounts}
 use Rattle.bench_text.specs.declared.answers.Expected.{Expected}
 use Rattle.bench_text.specs.declared.answers.Expected.TheVariants.{Numbers, Record}
@@ -40,7 +40,7 @@ spelt_lines text counts code (l ∷ ls) split e =
 spelt_if_read : (text : List ℕ) (counts : BenchCounts) (code : List ℕ) → reading text ≡ given counts code → Spells text counts code
 spelt_if_read text counts code e = spelt_lines text counts code (lines text) refl e
 
-all_whole : (ls rows : List (List ℕ)) → AllZip SpellsRecord ls rows → All Whole ls
+all_whole : (ls rows : List (List ℕ)) → AllZip SpellsRecord ls rows → AllByRecursion Whole ls
 all_whole [] rows each = tt
 all_whole (l ∷ ls) [] each = absurd each
 all_whole (l ∷ ls) (row ∷ rows) each = (record_whole l row each.0, all_whole ls rows each.1)
