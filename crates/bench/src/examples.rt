@@ -18,5 +18,12 @@ pub fn literal_to_place_1(places: usize) -> Result<(), Refusal>
 fn one_literal(places: usize) -> Result<(), Refusal>
     ensures { answer result ≡ verdict literal_to_place_1 places 1 }
 {
-    check(&[2, 1, 0, 0, 0, 0, 0, 0, 1, 0, 0, 0, 0, 0, 0, 0], places, 1)
+    with_one_result(&[2, 1, 0, 0, 0, 0, 0, 0, 1, 0, 0, 0, 0, 0, 0, 0], places)
+}
+
+// The checker's answer to code that is to leave one result.
+fn with_one_result(code: &[u8], places: usize) -> Result<(), Refusal>
+    ensures { answer result ≡ verdict code.now places 1 }
+{
+    check(code, places, 1)
 }
