@@ -3,8 +3,8 @@
 
 usage: python3 tools/respell.py [FOLDER]    once, at the top of a checkout (or of FOLDER), after the kit's port.py
 
-Names of specs/ and proofs/ are respelled in .antt files, in the clauses and ghost items of .rt files, and between the
-back quotes of README.md and docs/. Functions of src/, strings, inputs, outputs and must-fail edits stay as they are.
+Names of specs/ and proofs/ are respelled in .antt files, in .rt files, where only clauses and ghost items have such
+names, and between the back quotes of README.md and docs/. Inputs, outputs and must-fail edits stay as they are.
 """
 
 import pathlib
