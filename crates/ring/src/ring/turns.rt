@@ -12,6 +12,13 @@ impl Ring {
         ensures front { result.front ≡ 0 }
         ensures as_they_stand { (xs : List ℕ) → length xs ≡ size → held result xs ≡ xs }
     {
+        Ring::unturned(size)
+    }
+
+    fn unturned(size: usize) -> Ring
+        ensures size { result.size ≡ size }
+        ensures front { result.front ≡ 0 }
+    {
         Ring { size, front: 0 }
     }
 

@@ -1,11 +1,9 @@
-use Rattle.std.proofs.Common.{take, refl, ◌∙◌, append-nil, arith}
+use Rattle.std.proofs.Common.{take, ap, ◌∙◌, arith}
+use Rattle.ring.proofs.HeldPlaces.{held_new}
 use Rattle.ring.proofs.ring.Ring.new.Goals as goal
 use Rattle.std.proofs.lemmas.List.{take_all}
 
-pub returns : goal.returns
-returns c =
-    record {
-      size = refl;
-      front = refl;
-      as_they_stand = λ xs e. append-nil (take c.args.size xs) ∙ take_all c.args.size xs (omega arith);
-    }
+pub returns-clause-as_they_stand : goal.returns-clause-as_they_stand
+returns-clause-as_they_stand c xs e =
+    let made = c.unturned.ensures in
+    held_new c.unturned.result xs made.front ∙ ap (λ n. take n xs) made.size ∙ take_all c.args.size xs (omega arith)
