@@ -1,6 +1,7 @@
 -- The arithmetic of dimensions. Assumes nothing.
 use Rattle.std.proofs.Common.{le-leb, ltb-false, sym, ap, ◌∙◌, of_z, to_z}
-use Rattle.std.specs.Prelude.{◌≡◌, ℕ, ◌+◌, ◌*◌, ◌/◌, ◌%◌, Bool, true, false, cond, ◌&&◌, ℤ, pos, negsuc, ◌+ℤ◌, ◌-ℤ◌, Some, None, Ok, Err, Option, Result, ◌==◌, int_le, int_lt, refl}
+use Rattle.std.specs.Prelude.{◌≡◌, ℕ, ◌+◌, ◌*◌, ◌/◌, ◌%◌, Bool, true, false, cond, ◌&&◌, ℤ, pos, negsuc, ◌+ℤ◌, ◌-ℤ◌, Some, None, Ok, Err, Option, Result, int_le, int_lt, refl}
+use Rattle.std.specs.Ordering.{int_eq}
 use Rattle.std.specs.Int.{w8}
 use Rattle.arithmetic.specs.Meaning.{Meaning}
 use Rattle.arithmetic.specs.Ranges.{highest, is_exponent, lowest, provided}
@@ -40,14 +41,8 @@ dimension_of None v = Err out_of_range
 dimension_of (Some s) None = Err out_of_range
 dimension_of (Some s) (Some v) = Ok record { seconds = s; volts = v }
 
-abbrev pub eq_z : ℤ → ℤ → Bool
-eq_z (pos a) (pos b) = a == b
-eq_z (pos a) (negsuc b) = false
-eq_z (negsuc a) (pos b) = false
-eq_z (negsuc a) (negsuc b) = a == b
-
 abbrev pub same_dimension : Dimension → Dimension → Bool
-same_dimension l r = eq_z l.seconds.power r.seconds.power && eq_z l.volts.power r.volts.power
+same_dimension l r = int_eq l.seconds.power r.seconds.power && int_eq l.volts.power r.volts.power
 
 -- the dimension of both operands, where they have the same
 abbrev pub common_dimension : Dimension → Dimension → Result Dimension Fault
