@@ -1,3 +1,4 @@
 pub mod Operations
 pub mod Refusals
 pub mod Faults
+pub mod Provided

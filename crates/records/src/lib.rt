@@ -7,6 +7,6 @@ mod reason;
 mod refusal;
 
 pub use fault::Fault;
-pub use operation::Operation;
+pub use operation::{Operation, UnknownOperation};
 pub use reason::Reason;
 pub use refusal::Refusal;

@@ -1,10 +1,14 @@
 // The seven operations of a node: their numbers and how many operands each takes.
-ghost use Rattle.std.specs.Prelude.{◌≡◌, MatchOption, ◌≢◌};
-ghost use Rattle.records.specs.Operations.{arity, operation, operation_number};
+ghost use Rattle.std.specs.Prelude.{◌≡◌};
+ghost use Rattle.records.specs.Operations.{ReadsOperation, arity, operation_number};
 
+use std::error::Error;
+use std::fmt;
+
+/// An operation; its discriminant is the number that stands for it in node and code records.
 #[derive(Clone, Copy, Debug, PartialEq, Eq)]
 pub enum Operation {
-    Input,
+    Input = 1,
     Literal,
     Negate,
     Add,
@@ -13,40 +17,39 @@ pub enum Operation {
     Divide,
 }
 
-impl Operation {
-    // The number that stands for the operation in node and code records.
-    pub fn number(&self) -> u8
-        ensures { result ≡ operation_number self.now }
-    {
-        match self {
-            Operation::Input => 1,
-            Operation::Literal => 2,
-            Operation::Negate => 3,
-            Operation::Add => 4,
-            Operation::Subtract => 5,
-            Operation::Multiply => 6,
-            Operation::Divide => 7,
-        }
-    }
+/// A number that no operation has.
+#[derive(Clone, Copy, Debug, PartialEq, Eq)]
+pub struct UnknownOperation(pub u8);
 
-    // The operation of this number, if it is 1 to 7.
-    pub fn from_number(number: u8) -> Option<Operation>
-        ensures value { result ≡ operation number }
-        ensures has_that_number { MatchOption result ((o : Operation) → operation_number o ≢ number) (λ o. operation_number o ≡ number) }
-    {
+impl From<Operation> for u8 {
+    ghost from_gives = { λ operation number. number ≡ operation_number operation };
+
+    fn from(operation: Operation) -> u8 {
+        operation as u8
+    }
+}
+
+impl TryFrom<u8> for Operation {
+    type Error = UnknownOperation;
+
+    ghost try_from_gives = { ReadsOperation };
+
+    fn try_from(number: u8) -> Result<Operation, UnknownOperation> {
         match number {
-            1 => Some(Operation::Input),
-            2 => Some(Operation::Literal),
-            3 => Some(Operation::Negate),
-            4 => Some(Operation::Add),
-            5 => Some(Operation::Subtract),
-            6 => Some(Operation::Multiply),
-            7 => Some(Operation::Divide),
-            _ => None,
+            1 => Ok(Operation::Input),
+            2 => Ok(Operation::Literal),
+            3 => Ok(Operation::Negate),
+            4 => Ok(Operation::Add),
+            5 => Ok(Operation::Subtract),
+            6 => Ok(Operation::Multiply),
+            7 => Ok(Operation::Divide),
+            _ => Err(UnknownOperation(number)),
         }
     }
+}
 
-    // How many operands the operation takes.
+impl Operation {
+    /// How many operands the operation takes.
     pub fn arity(&self) -> usize
         ensures { result ≡ arity self.now }
     {
@@ -57,3 +60,15 @@ impl Operation {
         }
     }
 }
+
+impl fmt::Display for UnknownOperation {
+    ghost use Rattle.std.specs.Prelude.{Some, ◌++◌, codes, decimal};
+
+    ghost output = { λ e. Some (codes "no operation has the number " ++ decimal e.0) };
+
+    fn fmt<W: fmt::Write>(&self, f: &mut fmt::Formatter<W>) -> fmt::Result {
+        write!(f, "no operation has the number {}", self.0)
+    }
+}
+
+impl Error for UnknownOperation {}

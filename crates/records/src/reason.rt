@@ -1,12 +1,14 @@
 // Why a call is turned away: one case for each of the thirty refusals.
-ghost use Rattle.std.specs.Prelude.{◌≡◌, Decides, nat_eq};
-ghost use Rattle.records.specs.Refusals.{fault_number, reason_number, reason_numbers};
+ghost use Rattle.std.specs.Prelude.{◌≡◌, ◌↔◌, IsTrue, nat_eq};
+ghost use Rattle.records.specs.Refusals.{fault_number, fault_of, reason_number, reason_numbers};
+ghost use Rattle.std.specs.Option.{option_map_or};
 ghost use Rattle.std.specs.Ordering.{eq_of_both, on};
 ghost use Rattle.std.specs.Cmp.Rules.{comparing};
 ghost use Rattle.std.proofs.Common.{rules};
 
 use crate::fault::Fault;
 
+/// Why a call is turned away.
 #[derive(Clone, Copy, Debug)]
 pub enum Reason {
     // the card
@@ -50,7 +52,7 @@ pub enum Reason {
 }
 
 impl Reason {
-    // The number of the refusal, 1 to 30.
+    /// The number of the refusal, 1 to 30.
     pub fn number(&self) -> u8
         ensures { result ≡ reason_number self.now }
     {
@@ -88,13 +90,14 @@ impl Reason {
         }
     }
 
-    // The number of the fault that a refusal 29 carries, 0 for the others.
-    pub fn fault_number(&self) -> u8
-        ensures { result ≡ fault_number self.now }
+    /// The fault that a refusal 29 carries.
+    pub fn fault(&self) -> Option<Fault>
+        ensures value { result ≡ fault_of self.now }
+        ensures number { option_map_or (λ f. f.number) result 0 ≡ fault_number self.now }
     {
         match self {
-            Reason::Faulted(fault) => fault.number(),
-            _ => 0,
+            Reason::Faulted(fault) => Some(*fault),
+            _ => None,
         }
     }
 }
@@ -106,8 +109,12 @@ impl PartialEq for Reason {
 
     fn eq(&self, other: &Reason) -> bool
         ensures value { result ≡ eq_of_both (on reason_number nat_eq) (on fault_number nat_eq) self.now other.now }
-        ensures decides { Decides result (reason_numbers self.now ≡ reason_numbers other.now) }
+        ensures decides { IsTrue result ↔ (reason_numbers self.now ≡ reason_numbers other.now) }
     {
-        self.number() == other.number() && self.fault_number() == other.fault_number()
+        self.number() == other.number() && self.fault() == other.fault()
     }
+}
+
+impl Eq for Reason {
+    ghost laws = { Prim.search (comparing, rules) };
 }

@@ -3,9 +3,10 @@ ghost use Rattle.std.specs.Prelude.{◌≡◌, Some};
 ghost use Rattle.records.specs.Refusals.{refusal_text};
 
 use crate::reason::Reason;
+use std::error::Error;
 use std::fmt;
 
-#[derive(Clone, Copy, Debug, PartialEq)]
+#[derive(Clone, Copy, Debug, PartialEq, Eq)]
 pub struct Refusal {
     pub reason: Reason,
     pub place: usize,
@@ -29,11 +30,15 @@ impl fmt::Display for Refusal {
     fn fmt<W: fmt::Write>(&self, f: &mut fmt::Formatter<W>) -> fmt::Result {
         let number = self.reason.number();
         let place = self.place;
-        let fault = self.reason.fault_number();
-        if fault == 0 {
-            write!(f, "refused {number} at {place}")
-        } else {
-            write!(f, "refused {number} at {place} with fault {fault}")
+        match self.reason.fault() {
+            None => write!(f, "refused {number} at {place}"),
+            Some(fault) => write!(
+                f,
+                "refused {number} at {place} with fault {}",
+                fault.number()
+            ),
         }
     }
 }
+
+impl Error for Refusal {}
