@@ -1,8 +1,9 @@
 pub mod Fields
+pub mod Ascents
 pub mod Options
 pub mod RoundTrip
-pub mod RingViews
-pub mod RingSteps
+pub mod Chunks
+pub mod Counts
+pub mod MarkRings
 pub mod Walks
-pub mod Records
 pub mod Verdicts

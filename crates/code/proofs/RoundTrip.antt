@@ -1,11 +1,14 @@
 -- Reading undoes writing, and writing undoes reading. Assumes nothing.
-use Rattle.std.proofs.Common.{◌≡◌, ℕ, zero, suc, ◌+◌, ◌*◌, ◌/◌, ◌%◌, ◌<◌, true, eqb, ltb, leb, List, [], ◌∷◌, ◌++◌, length, get_or, drop, ℤ, pos, negsuc, Some, None, Option, sym, refl, ap, ◌∙◌, ⊎_elim, arith, lit<, w32, SFits, to_z, of_z, MatchOption}
-use native.Mathlib.Nat.{div-div-eq-div-mul}
+use Rattle.std.proofs.Common.{◌≡◌, ℕ, zero, suc, ◌+◌, ◌<◌, true, eqb, ltb, leb, List, [], ◌∷◌, ◌++◌, length, get_or, drop, ℤ, pos, negsuc, Some, None, Option, sym, refl, ap, ◌∙◌, ⊎_elim, arith, lit<, w32, SFits, to_z, of_z, MatchOption}
+use Rattle.std.specs.Int.{from_le_bytes, to_le_bytes, w16}
+use Rattle.std.proofs.lemmas.Nat.{from_le_bytes-to_le_bytes_2, from_le_bytes-to_le_bytes_4, le_bytes_2, le_bytes_4}
 use lib.Signed.{mag, le_z}
-use Rattle.code.proofs.Options.{and_then_at, cond_at, mapped_at, provided_at, provided_some}
+use Rattle.records.proofs.Provided.{provided_at, provided_some}
+use Rattle.std.specs.Option.{option_and_then, option_map}
+use Rattle.code.proofs.Options.{and_then_at, cond_at, mapped_at}
 use Rattle.code.specs.Bytes.{byte_at, i32_at, i32_bytes, u16_at, u16_bytes}
 use Rattle.code.specs.Lawful.{all_below, all_zero, argument_range, places_lawful, record_lawful}
-use Rattle.code.specs.Layout.{and_then, count_byte, decode, fields_at, fields_bytes, layout, place_fields, places_of, record_of, target_of}
+use Rattle.code.specs.Layout.{count_byte, decode, fields_at, fields_bytes, layout, place_fields, places_of, record_of, target_of}
 use Rattle.code.specs.declared.record.Record.{Record}
 use Rattle.code.specs.declared.target.Target.{Target}
 use Rattle.code.specs.declared.target.Target.TheVariants.{Rear, At}
@@ -16,22 +19,8 @@ use Rattle.records.specs.declared.operation.Operation.TheVariants.{Input, Litera
 use Rattle.std.proofs.lemmas.List.{drop_all, drop_more}
 use Rattle.std.proofs.lemmas.Int.{to_z-of_z, of_z-to_z}
 use Rattle.std.proofs.lemmas.Bool.{and_parts, cases_Bool, cond-false, cond-true, eqb-true, false≢true, leb-true, ltb-true, ne_eqb}
-use Rattle.std.specs.Option.{option_map}
 
--- ---- numbers and their bytes
-
-pub u16_of_bytes : (n : ℕ) → n < 65536 → n % 256 + n / 256 % 256 * 256 ≡ n
-u16_of_bytes n small = omega arith
-
-u24_of_bytes : (n : ℕ) → n < 16777216 → n % 256 + n / 256 % 256 * 256 + n / 256 / 256 % 256 * 65536 ≡ n
-u24_of_bytes n small = omega (arith, u16_of_bytes (n / 256) (omega arith))
-
-pub u32_of_bytes : (n : ℕ) → n < 4294967296 → n % 256 + n / 256 % 256 * 256 + n / 65536 % 256 * 65536 + n / 16777216 % 256 * 16777216 ≡ n
-u32_of_bytes n small =
-    let third = div-div-eq-div-mul n 256 256 in
-    let fourth = ap (λ m. m / 256) third ∙ div-div-eq-div-mul n 65536 256 in
-    (λ i. n % 256 + n / 256 % 256 * 256 + sym third i % 256 * 65536 + sym fourth i % 256 * 16777216)
-    ∙ omega (arith, u24_of_bytes (n / 256) (omega arith))
+-- ---- what fits
 
 -- an argument between two ends of 32 bits has 32 bits
 fits_between : (low high z : ℤ) → mag low < 2147483648 → mag high < 2147483648 → le_z low z ≡ true → le_z z high ≡ true → mag z < 2147483648
@@ -105,19 +94,18 @@ four_of (a ∷ b ∷ c ∷ d ∷ x ∷ xs) e = absurd (omega arith)
 
 -- a record from its parts, each of which may be missing
 abbrev assembled : Option Operation → Option Target → ℕ → ℤ → Option Record
-assembled o t n z = and_then o (λ p. and_then t (λ u. record_of p n z u))
+assembled o t n z = option_and_then (λ p. option_and_then (record_of p n z) t) o
 
 pub reads_back : (r : Record) → decode (layout r) ≡ Some r
 reads_back r =
     let t = r.target in
     let fs = place_fields t in
     let field : ℕ → ℕ = λ i. get_or fs i 0 in
-    let same : (i : ℕ) → field i % 256 + field i / 256 % 256 * 256 ≡ field i = λ i. u16_of_bytes (field i) (field_fits t i) in
+    let same : (i : ℕ) → from_le_bytes w16 (to_le_bytes w16 (field i)) ≡ field i = λ i. from_le_bytes-to_le_bytes_2 (field i) (field_fits t i) in
     let bits = of_z w32 r.argument in
-    let fields : (field 0 % 256 + field 0 / 256 % 256 * 256) ∷ (field 1 % 256 + field 1 / 256 % 256 * 256) ∷ (field 2 % 256 + field 2 / 256 % 256 * 256) ∷ (field 3 % 256 + field 3 / 256 % 256 * 256) ∷ [] ≡ fs =
-    (λ i. same 0 i ∷ same 1 i ∷ same 2 i ∷ same 3 i ∷ []) ∙ four_of fs (four_fields t) in
-    let argument = ap (to_z w32) (u32_of_bytes bits (of_z_below r.argument (argument_fits r))) ∙ to_z-of_z w32 r.argument (argument_fits r) in
-    (λ i. assembled (operation_of_number r.operation i) (target_of (count_byte t) (fields i)) (u16_of_bytes r.node (node_fits r) i) (argument i))
+    let fields : fields_at (layout r) ≡ fs = (λ i. same 0 i ∷ same 1 i ∷ same 2 i ∷ same 3 i ∷ []) ∙ four_of fs (four_fields t) in
+    let argument = ap (to_z w32) (from_le_bytes-to_le_bytes_4 bits (of_z_below r.argument (argument_fits r))) ∙ to_z-of_z w32 r.argument (argument_fits r) in
+    (λ i. assembled (operation_of_number r.operation i) (target_of (count_byte t) (fields i)) (from_le_bytes-to_le_bytes_2 r.node (node_fits r) i) (argument i))
     ∙ ap (λ u. assembled (Some r.operation) u r.node r.argument) (target_back t)
     ∙ sym (provided_some _ _ r.lawful)
 
@@ -150,52 +138,31 @@ items_are : (k n : ℕ) (bs : List ℕ) → length bs ≡ k + n → items k n bs
 items_are k zero bs long = sym (drop_all k bs (omega arith))
 items_are k (suc n) bs long = ap (λ l. get_or bs k 0 ∷ l) (items_are (k + 1) n bs (omega arith)) ∙ sym (drop_more bs k 0 (omega arith))
 
--- the lowest byte of a number, and the number above it
-low_byte : (a m : ℕ) → a < 256 → (a + m * 256) % 256 ≡ a
-low_byte a m small = omega arith
-
-above_byte : (a m : ℕ) → a < 256 → (a + m * 256) / 256 ≡ m
-above_byte a m small = omega arith
-
-one_byte : (a : ℕ) → a < 256 → a % 256 ≡ a
-one_byte a small = omega arith
-
-bytes_of_u16 : (a b : ℕ) → a < 256 → b < 256 → u16_bytes (a + b * 256) ≡ a ∷ b ∷ []
-bytes_of_u16 a b sa sb =
-    let high = ap (λ m. m % 256) (above_byte a b sa) ∙ one_byte b sb in
-    λ k. low_byte a b sa k ∷ high k ∷ []
-
-abbrev four_bytes : ℕ → List ℕ
-four_bytes n = (n % 256) ∷ (n / 256 % 256) ∷ (n / 65536 % 256) ∷ (n / 16777216 % 256) ∷ []
-
-bytes_of_u32 : (a b c d : ℕ) → a < 256 → b < 256 → c < 256 → d < 256 → four_bytes (a + b * 256 + c * 65536 + d * 16777216) ≡ a ∷ b ∷ c ∷ d ∷ []
-bytes_of_u32 a b c d sa sb sc sd =
-    let n = a + b * 256 + c * 65536 + d * 16777216 in
-    let second : n / 256 ≡ b + (c + d * 256) * 256 = omega arith in
-    let third : n / 65536 ≡ c + d * 256 = omega arith in
-    let fourth : n / 16777216 ≡ d = omega arith in
-    let first : n % 256 ≡ a = omega arith in
-    let at_second = ap (λ m. m % 256) second ∙ low_byte b (c + d * 256) sb in
-    let at_third = ap (λ m. m % 256) third ∙ low_byte c d sc in
-    let at_fourth = ap (λ m. m % 256) fourth ∙ one_byte d sd in
-    λ k. first k ∷ at_second k ∷ at_third k ∷ at_fourth k ∷ []
-
 module _ (bs : List ℕ) (small : (i : ℕ) → get_or bs i 0 < 256) where
-  pair : (i j : ℕ) → u16_bytes (get_or bs i 0 + get_or bs j 0 * 256) ≡ get_or bs i 0 ∷ get_or bs j 0 ∷ []
-  pair i j = bytes_of_u16 (get_or bs i 0) (get_or bs j 0) (small i) (small j)
+  -- the byte at i, or that at j
+  two_small : (i j k : ℕ) → get_or (get_or bs i 0 ∷ get_or bs j 0 ∷ []) k 0 < 256
+  two_small i j zero = small i
+  two_small i j (suc zero) = small j
+  two_small i j (suc (suc k)) = lit< tt
+
+  argument_small : (k : ℕ) → get_or (get_or bs 4 0 ∷ get_or bs 5 0 ∷ get_or bs 6 0 ∷ get_or bs 7 0 ∷ []) k 0 < 256
+  argument_small zero = small 4
+  argument_small (suc zero) = small 5
+  argument_small (suc (suc k)) = two_small 6 7 k
+
+  pair : (i j : ℕ) → u16_bytes (from_le_bytes w16 (get_or bs i 0 ∷ get_or bs j 0 ∷ [])) ≡ get_or bs i 0 ∷ get_or bs j 0 ∷ []
+  pair i j = le_bytes_2 _ _ refl (two_small i j) refl
 
   argument_bytes : i32_bytes (i32_at bs 4) ≡ get_or bs 4 0 ∷ get_or bs 5 0 ∷ get_or bs 6 0 ∷ get_or bs 7 0 ∷ []
   argument_bytes =
-      let n = get_or bs 4 0 + get_or bs 5 0 * 256 + get_or bs 6 0 * 65536 + get_or bs 7 0 * 16777216 in
-      ap four_bytes (of_z-to_z w32 n (omega (arith, small 4, small 5, small 6, small 7)))
-      ∙ bytes_of_u32 (get_or bs 4 0) (get_or bs 5 0) (get_or bs 6 0) (get_or bs 7 0) (small 4) (small 5) (small 6) (small 7)
+      ap (to_le_bytes w32) (of_z-to_z w32 _ (omega (arith, small 4, small 5, small 6, small 7))) ∙ le_bytes_4 _ _ refl argument_small refl
 
   pub written_back : (r : Record) → decode bs ≡ Some r → layout r ≡ bs
   written_back r e =
       let whole = cond_at (eqb (length bs) 16) _ r e in
       let long : length bs ≡ 0 + 16 = eqb-true (length bs) 16 whole.0 in
-      let found = and_then_at (operation (byte_at bs 0)) _ r whole.1 in
-      let aimed = and_then_at (target_of (byte_at bs 1) (fields_at bs)) _ r found.2 in
+      let found = and_then_at _ (operation (byte_at bs 0)) r whole.1 in
+      let aimed = and_then_at _ (target_of (byte_at bs 1) (fields_at bs)) r found.2 in
       let target = target_read (byte_at bs 1) (fields_at bs) aimed.0 refl aimed.1 in
       let made = (provided_at (record_lawful found.0 (u16_at bs 2) (i32_at bs 4)) _ r aimed.2).1 in
       let row : ℕ → ℕ → List ℕ → List ℕ → List ℕ → List ℕ = λ o k ns zs fs. o ∷ k ∷ (ns ++ (zs ++ fs)) in

@@ -1,26 +1,10 @@
--- The marks as the records go by, one turn of a loop at a time. Assumes nothing.
-use Rattle.std.proofs.Common.{◌≡◌, ℕ, zero, suc, ◌+◌, ◌<◌, Bool, true, false, cond, ltb, List, [], ◌∷◌, length, get_or, drop, set, sym, refl, ap, ◌∙◌, ⊎_elim, add-one, arith}
-use Rattle.code.specs.Marks.{front_full, pass, passes}
+-- The marks as a record puts on its places, one turn of a loop at a time. Assumes nothing.
+use Rattle.std.proofs.Common.{◌≡◌, ℕ, ◌+◌, ◌<◌, Bool, true, false, cond, ltb, List, [], ◌∷◌, length, get_or, drop, set, sym, refl, ap, ◌∙◌}
 use Rattle.code.specs.Verdict.{puts}
 use Rattle.records.specs.Refusals.{Answer, granted, refused, if_granted}
 use Rattle.std.proofs.lemmas.List.{drop_more}
-use Rattle.std.proofs.lemmas.Bool.{and_from, and_left, and_right, cases_eq}
 
-pub front_more : (ms : List Bool) (k : ℕ) → front_full k ms ≡ true → true ≡ get_or ms k false → front_full (k + 1) ms ≡ true
-front_more ms k before here = ap (λ n. front_full n ms) (add-one k) ∙ and_from (get_or ms k false) (front_full k ms) (sym here) before
-
-pub front_breaks : (ms : List Bool) (n k : ℕ) → k < n → false ≡ get_or ms k false → false ≡ front_full n ms
-front_breaks ms zero k h e = absurd (omega arith)
-front_breaks ms (suc n) k h e =
-    ⊎_elim
-    (λ here. sym (and_left (get_or ms n false) (front_full n ms) (ap (λ j. get_or ms j false) (sym here) ∙ sym e)))
-    (λ before. sym (and_right (get_or ms n false) (front_full n ms) (sym (front_breaks ms n k (omega arith) e))))
-    (cases_eq k n)
-
-pub passes_more : (n : ℕ) (ms : List Bool) → passes (n + 1) ms ≡ pass (passes n ms)
-passes_more n ms = ap (λ k. passes k ms) (add-one n)
-
-pub puts_first : (i k : ℕ) (ks : List ℕ) (ms : List Bool) → puts i (k ∷ ks) ms ≡ if_granted (puts i (k ∷ []) ms) (puts i ks)
+puts_first : (i k : ℕ) (ks : List ℕ) (ms : List Bool) → puts i (k ∷ ks) ms ≡ if_granted (puts i (k ∷ []) ms) (puts i ks)
 puts_first i k ks ms =
     elim (ltb k (length ms)) as (λ b. ◌≡◌ {A = Answer (List Bool)} (cond b (cond (get_or ms k false) (refused 23 i 0) (puts i ks (set ms k true))) (refused 24 i 0)) (if_granted (cond b (cond (get_or ms k false) (refused 23 i 0) (granted (set ms k true))) (refused 24 i 0)) (puts i ks))) [
       | true ↦

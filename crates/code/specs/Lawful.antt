@@ -1,7 +1,8 @@
 -- What a code record may hold. Assumes nothing.
 use Rattle.std.specs.Prelude.{ℕ, Bool, true, ◌&&◌, List, [], ◌∷◌, length, take, drop, ℤ, pos, negsuc, ◌==◌, int_le, nat_le, nat_lt}
+use Rattle.std.specs.List.{list_all}
 use Rattle.records.specs.declared.operation.Operation.{Operation}
-use Rattle.records.specs.declared.operation.Operation.TheVariants.{Input, Literal, Negate, Add, Subtract, Multiply, Divide}
+use Rattle.records.specs.declared.operation.Operation.TheVariants.{Input, Literal}
 
 -- each element is below the next
 abbrev pub ascending : List ℕ → Bool
@@ -10,12 +11,10 @@ ascending (x ∷ []) = true
 ascending (x ∷ y ∷ ys) = nat_lt x y && ascending (y ∷ ys)
 
 abbrev pub all_zero : List ℕ → Bool
-all_zero [] = true
-all_zero (x ∷ xs) = x == 0 && all_zero xs
+all_zero xs = list_all (λ x. x == 0) xs
 
 abbrev pub all_below : ℕ → List ℕ → Bool
-all_below n [] = true
-all_below n (x ∷ xs) = nat_lt x n && all_below n xs
+all_below n xs = list_all (λ x. nat_lt x n) xs
 
 -- four 16-bit place fields, of which the first `count` are in use: those ascend strictly, the others are zero
 abbrev pub places_lawful : ℕ → List ℕ → Bool
@@ -26,11 +25,7 @@ places_lawful count fields =
 abbrev pub argument_range : Operation → ℤ × ℤ
 argument_range Input = (pos 0, pos 63)
 argument_range Literal = (negsuc 2147483647, pos 2147483647)
-argument_range Negate = (pos 0, pos 0)
-argument_range Add = (pos 0, pos 0)
-argument_range Subtract = (pos 0, pos 0)
-argument_range Multiply = (pos 0, pos 0)
-argument_range Divide = (pos 0, pos 0)
+argument_range o = (pos 0, pos 0)
 
 -- an argument within that range
 abbrev pub argument_lawful : Operation → ℤ → Bool

@@ -1,5 +1,5 @@
 -- The 16 bytes of a code record, and the record that 16 bytes hold. Assumes nothing.
-use Rattle.std.specs.Prelude.{◌≡◌, ℕ, ◌*◌, Bool, true, false, cond, List, [], ◌∷◌, ◌++◌, length, take, drop, ℤ, Some, None, Option, ◌==◌, slice_index, refl}
+use Rattle.std.specs.Prelude.{ℕ, ◌*◌, Bool, true, false, if◌then◌else◌, List, [], ◌∷◌, ◌++◌, length, take, drop, ℤ, None, Option, ◌==◌, slice_index}
 use Rattle.code.specs.Bytes.{byte_at, i32_at, i32_bytes, u16_at, u16_bytes}
 use Rattle.code.specs.Lawful.{all_zero, places_lawful, record_lawful}
 use Rattle.code.specs.declared.places.Places.{Places}
@@ -8,7 +8,8 @@ use Rattle.code.specs.declared.target.Target.{Target}
 use Rattle.code.specs.declared.target.Target.TheVariants.{Rear, At}
 use Rattle.records.specs.Operations.{operation, operation_number}
 use Rattle.records.specs.declared.operation.Operation.{Operation}
-use Rattle.std.specs.Option.{option_map}
+use Rattle.records.specs.Provided.{provided}
+use Rattle.std.specs.Option.{option_and_then, option_map}
 
 abbrev pub is_rear : Target → Bool
 is_rear Rear = true
@@ -34,16 +35,6 @@ layout r =
     operation_number r.operation ∷ count_byte r.target
     ∷ (u16_bytes r.node ++ (i32_bytes r.argument ++ fields_bytes (place_fields r.target)))
 
--- what f makes of a test that passed
-abbrev pub provided : {X : Type 0} (b : Bool) → (b ≡ true → X) → Option X
-provided true f = Some (f refl)
-provided false f = None
-
--- what f makes of a value that is there
-abbrev pub and_then : {X Y : Type 0} → Option X → (X → Option Y) → Option Y
-and_then None f = None
-and_then (Some x) f = f x
-
 -- the places that a number of places and four fields hold, if they are lawful
 abbrev pub places_of : ℕ → List ℕ → Option Places
 places_of n fs = provided (places_lawful n fs) (λ e. record { count = n; fields = fs; lawful = e })
@@ -51,7 +42,7 @@ places_of n fs = provided (places_lawful n fs) (λ e. record { count = n; fields
 -- the rear if the number is 255 and the fields are zero, else places
 abbrev pub target_of : ℕ → List ℕ → Option Target
 target_of n fs =
-    cond (n == 255) (provided (all_zero fs) (λ _. Rear)) (option_map At (places_of n fs))
+    if n == 255 then provided (all_zero fs) (λ _. Rear) else option_map At (places_of n fs)
 
 -- a record of these parts, if they go together
 abbrev pub record_of : Operation → ℕ → ℤ → Target → Option Record
@@ -65,11 +56,9 @@ fields_at bs = u16_at bs 8 ∷ u16_at bs 10 ∷ u16_at bs 12 ∷ u16_at bs 14 �
 -- the record that a list of 16 bytes holds, if it has that layout
 abbrev pub decode : List ℕ → Option Record
 decode bs =
-    cond (length bs == 16)
-    (and_then (operation (byte_at bs 0)) (λ o.
-    and_then (target_of (byte_at bs 1) (fields_at bs)) (λ t.
-    record_of o (u16_at bs 2) (i32_at bs 4) t)))
-    None
+    if length bs == 16 then
+    option_and_then (λ o. option_and_then (record_of o (u16_at bs 2) (i32_at bs 4)) (target_of (byte_at bs 1) (fields_at bs))) (operation (byte_at bs 0))
+    else None
 
 -- record i of code: its bytes begin at 16 × i
 abbrev pub record_at : List ℕ → ℕ → Option Record

@@ -2,5 +2,4 @@ pub mod Bytes
 pub mod Lawful
 pub mod Layout
 pub mod Marks
-pub mod Ring
 pub mod Verdict

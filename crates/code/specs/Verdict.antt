@@ -1,14 +1,17 @@
 -- The checker's answer: which rule a code breaks first, and at which record. Assumes nothing.
-use Rattle.std.specs.Prelude.{ℕ, zero, suc, ◌/◌, ◌%◌, min, Bool, true, false, cond, ◌&&◌, List, [], ◌∷◌, length, take, replicate, is_some, Some, None, Option, ◌==◌, nat_le, nat_lt, slice_index_or, slice_set}
-use Rattle.std.specs.Bool.{beq}
+use Rattle.std.specs.Prelude.{ℕ, zero, suc, ◌/◌, ◌%◌, min, Bool, true, false, if◌then◌else◌, ◌&&◌, List, [], ◌∷◌, length, take, replicate, find, is_none, Some, None, Option, Ok, Err, Result, ◌==◌, nat_le, nat_lt, slice_index_or, slice_set}
+use Rattle.std.specs.Bool.{beq, then_some}
+use Rattle.std.specs.List.{range_with_len}
+use Rattle.std.specs.Option.{option_and_then}
 use Rattle.code.specs.Bytes.{byte_at}
-use Rattle.code.specs.Layout.{and_then, is_rear, record_at}
+use Rattle.code.specs.Layout.{is_rear, record_at}
 use Rattle.code.specs.Marks.{front_full, full_count, just_front, passes}
 use Rattle.code.specs.declared.record.Record.{Record}
 use Rattle.code.specs.declared.target.Target.{Target}
 use Rattle.code.specs.declared.target.Target.TheVariants.{Rear, At}
 use Rattle.records.specs.Operations.{arity}
-use Rattle.records.specs.Refusals.{Answer, granted, refused, if_granted}
+use Rattle.records.specs.Refusals.{Answer, fault_number, granted, if_granted, reason_number, refused}
+use Rattle.records.specs.declared.reason.Reason.{Reason}
 
 -- ---- well-formed code
 
@@ -18,13 +21,11 @@ is_simple code = byte_at code 1 == 255
 
 -- record i, if it is there, laid out well and of the kind of record 0
 abbrev pub lawful_at : List ℕ → ℕ → Option Record
-lawful_at code i = and_then (record_at code i) (λ r. cond (beq (is_rear r.target) (is_simple code)) (Some r) None)
+lawful_at code i = option_and_then (λ r. then_some (beq (is_rear r.target) (is_simple code)) r) (record_at code i)
 
 -- the first of n records that is not lawful
 abbrev pub first_unlawful : List ℕ → ℕ → Option ℕ
-first_unlawful code zero = None
-first_unlawful code (suc n) =
-    elim (first_unlawful code n) [ Some i ↦ Some i | None ↦ cond (is_some (lawful_at code n)) None (Some n) ]
+first_unlawful code n = find (λ i. is_none (lawful_at code i)) (range_with_len 0 n)
 
 -- how many whole records a code has
 abbrev pub record_count : List ℕ → ℕ
@@ -42,9 +43,9 @@ all_lawful (Some i) = refused 21 i 0
 -- the tests that look at no place: length, result count, each record by itself
 abbrev pub well_formed : List ℕ → ℕ → Answer (Unit {0})
 well_formed code results =
-    cond (whole_records code)
-    (cond (nat_le results 16) (all_lawful (first_unlawful code (record_count code))) (refused 16 0 0))
-    (refused 20 0 0)
+    if whole_records code then
+    (if nat_le results 16 then all_lawful (first_unlawful code (record_count code)) else refused 16 0 0)
+    else refused 20 0 0
 
 -- ---- the places, record by record
 
@@ -57,14 +58,16 @@ places_put (At p) ms = take p.count p.fields
 abbrev pub puts : ℕ → List ℕ → List Bool → Answer (List Bool)
 puts i [] ms = granted ms
 puts i (k ∷ ks) ms =
-    cond (nat_lt k (length ms)) (cond (slice_index_or ms k false) (refused 23 i 0) (puts i ks (slice_set ms k true))) (refused 24 i 0)
+    if nat_lt k (length ms) then
+    (if slice_index_or ms k false then refused 23 i 0 else puts i ks (slice_set ms k true))
+    else refused 24 i 0
 
 -- record i takes its operands, passes them and puts
 abbrev pub step_marks : ℕ → Record → List Bool → Answer (List Bool)
 step_marks i r ms =
-    cond (front_full (arity r.operation) ms)
-    (puts i (places_put r.target (passes (arity r.operation) ms)) (passes (arity r.operation) ms))
-    (refused 22 i 0)
+    if front_full (arity r.operation) ms then
+    puts i (places_put r.target (passes (arity r.operation) ms)) (passes (arity r.operation) ms)
+    else refused 22 i 0
 
 -- the same of a record that may not be lawful
 abbrev pub step_at : ℕ → Option Record → List Bool → Answer (List Bool)
@@ -78,10 +81,15 @@ marks_after code P (suc n) = if_granted (marks_after code P n) (step_at n (lawfu
 
 -- the end leaves just the results
 abbrev pub ending : ℕ → ℕ → List Bool → Answer (Unit {0})
-ending m results ms = cond (just_front results ms) (granted tt) (refused 25 m 0)
+ending m results ms = if just_front results ms then granted tt else refused 25 m 0
 
 -- more than 4,096 places count as 4,096
 abbrev pub verdict : List ℕ → ℕ → ℕ → Answer (Unit {0})
 verdict code P results =
     if_granted (well_formed code results) (λ _.
     if_granted (marks_after code (min P 4096) (record_count code)) (ending (record_count code) results))
+
+-- what a call leaves that a reason refuses, told of record i
+abbrev pub outcome_at : {X Y : Type 0} → ℕ → Result X Reason → Y → Answer Y
+outcome_at i (Ok x) y = granted y
+outcome_at i (Err r) y = refused (reason_number r) i (fault_number r)

@@ -1,7 +1,6 @@
 // Queue code: the 16-byte record, its layout, and the checker.
 #![tactic(auto)]
 
-mod bytes;
 mod checker;
 mod layout;
 mod marks;

@@ -1,20 +1,88 @@
-// Which places are full, as a ring of marks with a front and a count of the full ones.
-ghost use Rattle.std.specs.Prelude.{◌≡◌, ◌<◌, ◌≤◌, max, length, take};
-ghost use Rattle.code.specs.Marks.{full_count, ring_view};
+// The places of a queue by their marks alone, in a ring of slots: a look, a put and a pass each take constant time.
+ghost use Rattle.std.specs.Prelude.{◌≡◌, ℕ, ◌≤◌, min, Bool, false, List, [], ◌∷◌, replicate, slice_index_or};
+ghost use Rattle.code.specs.Marks.{full_count, pass};
+ghost use Rattle.code.specs.Verdict.{outcome_at, puts};
 
-mod ring;
+use records::Reason;
+use ring::Ring;
+use std::marker::Model;
 
-// The most places that a queue has.
+/// The most places that a queue has.
 pub const MOST_PLACES: usize = 4096;
 
+// Which places are full, the front place first.
 #[derive(Drop)]
 pub(crate) struct Marks {
     slots: [bool; MOST_PLACES],
-    places: usize,
-    front: usize,
+    ring: Ring,
     full: usize,
-    ghost few: { places ≤ 4096 },
-    ghost front_within: { front < max places 1 },
-    ghost long: { length slots ≡ 4096 },
-    ghost counted: { full ≡ full_count (ring_view front (take places slots)) },
+}
+
+impl Model for Marks {
+    ghost use Rattle.ring.specs.Held.{held};
+    ghost use Rattle.std.specs.Prelude.{Bool, List};
+    ghost use Rattle.code.specs.Marks.{InStep, full_count};
+
+    ghost Value = { List Bool };
+
+    ghost view = { λ m. held m.ring m.slots };
+
+    ghost invariant = { λ m. InStep m.ring.size m.full (held m.ring m.slots) };
+}
+
+impl Marks {
+    // That many empty places, at most 4,096.
+    pub(crate) fn empty(places: usize) -> Marks
+        ensures { result ≡ replicate (min places MOST_PLACES) false }
+    {
+        Marks {
+            slots: [false; MOST_PLACES],
+            ring: Ring::new(places.min(MOST_PLACES)),
+            full: 0,
+        }
+    }
+
+    // How many places are full.
+    pub(crate) fn full_count(&self) -> usize
+        ensures { result ≡ full_count self.now }
+    {
+        self.full
+    }
+
+    // Whether place k is there and full.
+    pub(crate) fn is_full(&self, k: usize) -> bool
+        ensures { result ≡ slice_index_or self.now k false }
+    {
+        match self.ring.slot(k) {
+            Some(slot) => self.slots[slot],
+            None => false,
+        }
+    }
+
+    // Marks place k, which has to be there and empty.
+    pub(crate) fn put(&mut self, k: usize) -> Result<(), Reason>
+        ensures { (index : ℕ) → outcome_at index result self.new ≡ puts index (k ∷ []) self.old }
+    {
+        let Some(slot) = self.ring.slot(k) else {
+            return Err(Reason::PlaceMissing);
+        };
+        if self.slots[slot] {
+            return Err(Reason::PlaceFull);
+        }
+        self.slots[slot] = true;
+        self.full += 1;
+        Ok(())
+    }
+
+    // Drops place 0 and adds an empty place at the rear.
+    pub(crate) fn pass(&mut self)
+        ensures { self.new ≡ pass self.old }
+    {
+        let Some(front) = self.ring.slot(0) else {
+            return;
+        };
+        self.full -= usize::from(self.slots[front]);
+        self.slots[front] = false;
+        self.ring.turn();
+    }
 }

@@ -1,5 +1,5 @@
 -- The places of a ring over slots: how many, what a look and a write meet, what a turn makes of them. Assumes nothing.
-use Rattle.std.proofs.Common.{◌≡◌, ℕ, ◌+◌, ◌-◌, ◌<◌, ◌≤◌, cond, ltb, ◌⊎◌, List, length, get_or, take, set, Some, None, Option, sym, ap, ◌∙◌, inl, inr, ⊎_elim, append-nil, arith, length-set, MatchOption}
+use Rattle.std.proofs.Common.{◌≡◌, ℕ, ◌+◌, ◌-◌, ◌<◌, ◌≤◌, cond, ltb, ◌⊎◌, List, length, get_or, take, set, Some, None, Option, sym, ap, ◌∙◌, inl, inr, ⊎_elim, add-zero, append-nil, arith, length-set, MatchOption}
 use lib.Seq.{take-set-lt}
 use Rattle.ring.proofs.RingViews.{view_length, view_before, view_after, set_before, set_after, view_turn, view_over}
 use Rattle.ring.specs.Held.{held}
@@ -30,6 +30,12 @@ module _ (front size k : ℕ) where
   -- the slot by the two ways round
   pub slot_is : (j : ℕ) → slot_of front size k ≡ Some j → j ≡ cond (ltb k (size - front)) (front + k) (k - (size - front))
   slot_is j e = let h = sym (cond-true (ltb k size) (Some (cond (ltb k (size - front)) (front + k) (k - (size - front)))) None (lt-ltb k size (slot_inside j e))) ∙ e in cc
+
+-- place 0 is the slot at the front
+pub front_slot : (r : Ring) (j : ℕ) → slot_of r.front r.size 0 ≡ Some j → j ≡ r.front
+front_slot r j found =
+    let some = slot_inside r.front r.size 0 j found in
+    slot_is r.front r.size 0 j found ∙ cond-true _ _ _ (lt-ltb 0 (r.size - r.front) (omega (arith, some, r.front_within))) ∙ add-zero r.front
 
 module _ {X : Type 0} (r : Ring) (slots : List X) (enough : r.size ≤ length slots) where
   part_long : length (take r.size slots) ≡ r.size

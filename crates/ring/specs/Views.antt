@@ -1,5 +1,5 @@
 -- A list of slots seen from a front: which slot is which place. Assumes nothing.
-use Rattle.std.specs.Prelude.{ℕ, ◌+◌, ◌-◌, cond, List, [], ◌∷◌, ◌++◌, take, drop, Some, None, Option, nat_lt}
+use Rattle.std.specs.Prelude.{ℕ, ◌+◌, ◌-◌, if◌then◌else◌, List, [], ◌∷◌, ◌++◌, take, drop, Some, None, Option, nat_lt}
 
 -- the places are the slots from `front` on, and then those before it
 abbrev pub ring_view : {X : Type 0} → ℕ → List X → List X
@@ -12,8 +12,9 @@ shifted v (x ∷ xs) = xs ++ v ∷ []
 
 -- the slot of place k in a ring of that size: from the front on, and past the last slot from slot 0 on
 abbrev pub slot_of : (front size k : ℕ) → Option ℕ
-slot_of front size k = cond (nat_lt k size) (Some (cond (nat_lt k (size - front)) (front + k) (k - (size - front)))) None
+slot_of front size k =
+    if nat_lt k size then Some (if nat_lt k (size - front) then front + k else k - (size - front)) else None
 
 -- the front once place 0 is dropped
 abbrev pub next_front : (front size : ℕ) → ℕ
-next_front front size = cond (nat_lt 1 (size - front)) (front + 1) 0
+next_front front size = if nat_lt 1 (size - front) then front + 1 else 0

@@ -1,11 +1,80 @@
-// The size of a ring and the slot at its front.
-ghost use Rattle.std.specs.Prelude.{◌<◌, max};
+// The size of a ring and the slot at its front: which slot is place k, and the turn that drops place 0, each in constant
+// time.
+ghost use Rattle.std.specs.Prelude.{◌≡◌, ℕ, ◌<◌, ◌≤◌, max, List, length, MatchOption, slice_index, slice_set};
+ghost use Rattle.ring.specs.Views.{next_front, shifted, slot_of};
 
-mod turns;
-
+/// Slots seen as places from a front on: place 0 is the slot at the front.
 #[derive(Clone, Copy, Drop)]
 pub struct Ring {
     size: usize,
     front: usize,
     ghost front_within: { front < max size 1 },
+}
+
+impl Ring {
+    ghost use Rattle.ring.specs.Held.{held};
+
+    /// A ring of that many slots, with slot k as place k.
+    pub fn new(size: usize) -> Ring
+        ensures size { result.size ≡ size }
+        ensures front { result.front ≡ 0 }
+        ensures as_they_stand { (xs : List ℕ) → length xs ≡ size → held result xs ≡ xs }
+    {
+        Ring::unturned(size)
+    }
+
+    fn unturned(size: usize) -> Ring
+        ensures size { result.size ≡ size }
+        ensures front { result.front ≡ 0 }
+    {
+        Ring { size, front: 0 }
+    }
+
+    pub fn size(&self) -> usize
+        ensures { result ≡ self.now.size }
+    {
+        self.size
+    }
+
+    /// The slot of place k, if there is such a place.
+    pub fn slot(&self, k: usize) -> Option<usize>
+        ensures value { result ≡ slot_of self.now.front self.now.size k }
+        ensures is_place_k { (xs : List ℕ) → length xs ≡ self.now.size → MatchOption result (length xs ≤ k) (λ j. (j < length xs) × (slice_index (held self.now xs) k ≡ slice_index xs j)) }
+    {
+        self.slot_number(k)
+    }
+
+    fn slot_number(&self, k: usize) -> Option<usize>
+        ensures { result ≡ slot_of self.now.front self.now.size k }
+    {
+        if k >= self.size {
+            return None;
+        }
+        let to_the_end = self.size - self.front;
+        if k < to_the_end {
+            Some(self.front + k)
+        } else {
+            Some(k - to_the_end)
+        }
+    }
+
+    /// The front moves on by one slot, so that the old front is the last place.
+    pub fn turn(&mut self)
+        ensures size { self.new.size ≡ self.old.size }
+        ensures front { self.new.front ≡ next_front self.old.front self.old.size }
+        ensures shifts { (xs : List ℕ) → (v : ℕ) → length xs ≡ self.old.size → held self.new (slice_set xs self.old.front v) ≡ shifted v (held self.old xs) }
+    {
+        self.move_on();
+    }
+
+    fn move_on(&mut self)
+        ensures size { self.new.size ≡ self.old.size }
+        ensures front { self.new.front ≡ next_front self.old.front self.old.size }
+    {
+        if self.size - self.front > 1 {
+            self.front += 1;
+        } else {
+            self.front = 0;
+        }
+    }
 }

@@ -1,16 +1,11 @@
-use Rattle.std.proofs.Common.{false, replicate, refl, ap, ◌∙◌, arith}
-use Rattle.code.proofs.RingViews.{empty_count, empty_view}
+use Rattle.std.proofs.Common.{◌≤◌, false, replicate, ap, ◌∙◌, arith}
+use Rattle.std.proofs.lemmas.List.{take-replicate}
+use Rattle.ring.proofs.HeldPlaces.{held_new}
 use Rattle.code.proofs.marks.Marks.empty.Goals as goal
-
-pub invariant_of-result : goal.invariant_of-result
-invariant_of-result c =
-    record {
-      few = omega (arith, c.at_most_all.ensures);
-      front_within = omega arith;
-      long = refl;
-      counted = empty_count 4096 c.at_most_all.result (omega (arith, c.at_most_all.ensures));
-    }
 
 pub returns : goal.returns
 returns c =
-    empty_view 4096 c.at_most_all.result (omega (arith, c.at_most_all.ensures)) ∙ ap (λ n. replicate n false) c.at_most_all.ensures
+    let made = c.new.ensures in
+    let few : c.new.result.size ≤ 4096 = omega (arith, made.size, c.min.ensures) in
+    held_new c.new.result (replicate 4096 false) made.front ∙ take-replicate c.new.result.size 4096 false few
+    ∙ ap (λ n. replicate n false) (made.size ∙ c.min.ensures)

@@ -1,19 +1,21 @@
-use Rattle.std.proofs.Common.{false, sym, ap, ◌∙◌, length-set}
-use Rattle.code.proofs.RingSteps.{next_within, pass_is}
-use Rattle.code.specs.Marks.{full_count}
+use Rattle.std.proofs.Common.{ap, arith, sym, ◌∙◌}
+use Rattle.code.specs.Marks.{pass}
+use Rattle.code.proofs.MarkRings.{first_counted, pass_in_step, passes_place_0}
 use Rattle.code.proofs.marks.Marks.pass.Goals as goal
+
+pub overflow_sub-self : goal.overflow_sub-self
+overflow_sub-self c =
+    let m = c.self.inside in
+    let counted = first_counted m.ring m.slots (omega (arith, c.self.invariant.few, c.self.told)) m.full c.self.invariant c.in-Some.front (sym c.slot.ensures.value ∙ c.in-Some.is) in
+    omega (arith, counted, c.from.ensures)
 
 pub invariant_of-self : goal.invariant_of-self
 invariant_of-self c =
-    let m = c.args.self.now in
-    let next = c.next_front-next in
-    record {
-      few = m.few;
-      front_within = next_within m next.result c.if-self-eq0.false next.ensures;
-      long = length-set m.slots m.front false ∙ m.long;
-      counted = c.full_after_pass-full.ensures ∙ ap full_count (sym (pass_is m next.result c.if-self-eq0.false next.ensures));
-    }
+    let m = c.self.inside in
+    pass_in_step m.ring m.slots (omega (arith, c.self.invariant.few, c.self.told)) m.full c.self.invariant c.in-Some.front (sym c.slot.ensures.value ∙ c.in-Some.is) c.turn.new.self c.turn.ensures.size c.turn.ensures.front c.from.result c.from.ensures
 
 pub returns : goal.returns
 returns c =
-    pass_is c.args.self.now c.next_front-next.result c.if-self-eq0.false c.next_front-next.ensures
+    let m = c.self.inside in
+    passes_place_0 m.ring m.slots (omega (arith, c.self.invariant.few, c.self.told)) m.full c.self.invariant c.in-Some.front (sym c.slot.ensures.value ∙ c.in-Some.is) c.turn.new.self c.turn.ensures.size c.turn.ensures.front
+    ∙ ap pass c.self.view_is

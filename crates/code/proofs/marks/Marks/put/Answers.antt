@@ -1,29 +1,17 @@
-use Rattle.std.proofs.Common.{true, ◌∙◌, arith, length-set}
-use Rattle.code.proofs.RingSteps.{few_full, put_counts, put_is, slot_small, view_long}
+use Rattle.std.proofs.Common.{◌≡◌, [], ◌∷◌, set, true, arith, subst, sym, ◌∙◌}
+use Rattle.ring.specs.Held.{held}
+use Rattle.records.specs.Refusals.{granted}
+use Rattle.code.specs.Verdict.{puts}
+use Rattle.code.proofs.MarkRings.{put_granted, put_in_step}
 use Rattle.code.proofs.marks.Marks.put.Goals as goal
-
-pub slot-slot-requires : goal.slot-slot-requires
-slot-slot-requires c = omega (arith, c.requires.within, view_long c.args.self.now)
-
-pub bounds-self-slot : goal.bounds-self-slot
-bounds-self-slot c =
-    let m = c.args.self.now in
-    slot_small m c.args.k c.slot-slot.result (omega (arith, c.requires.within, view_long m)) c.slot-slot.ensures
-
-pub overflow_add-self : goal.overflow_add-self
-overflow_add-self c = record { fits = omega (arith, few_full c.args.self.now) }
 
 pub invariant_of-self : goal.invariant_of-self
 invariant_of-self c =
-    let m = c.args.self.now in
-    record {
-      few = m.few;
-      front_within = m.front_within;
-      long = length-set m.slots c.slot-slot.result true ∙ m.long;
-      counted = put_counts m c.args.k c.slot-slot.result (omega (arith, c.requires.within, view_long m)) c.slot-slot.ensures c.requires.empty;
-    }
+    let m = c.self.inside in
+    put_in_step m.ring m.slots (omega (arith, c.self.invariant.few, c.self.told)) m.full c.self.invariant c.args.k c.in-Some.slot (sym c.slot.ensures.value ∙ c.in-Some.is) c.if-self-slot.false
 
 pub returns : goal.returns
-returns c =
-    let m = c.args.self.now in
-    put_is m c.args.k c.slot-slot.result (omega (arith, c.requires.within, view_long m)) c.slot-slot.ensures
+returns c index =
+    let m = c.self.inside in
+    subst (λ ms. granted (held m.ring (set m.slots c.in-Some.slot true)) ≡ puts index (c.args.k ∷ []) ms) c.self.view_is
+    (put_granted m.ring m.slots (omega (arith, c.self.invariant.few, c.self.told)) m.full c.self.invariant c.args.k c.in-Some.slot (sym c.slot.ensures.value ∙ c.in-Some.is) c.if-self-slot.false index)

@@ -1,4 +1,4 @@
-use Rattle.code.proofs.Options.{provided_some}
+use Rattle.records.proofs.Provided.{provided_some}
 use Rattle.code.proofs.places.Places.new.Goals as goal
 
 pub returns : goal.returns

@@ -1,5 +1,5 @@
 use Rattle.std.proofs.Common.{ap, ◌∙◌, to_z-of_z}
-use Rattle.code.proofs.Options.{provided_some}
+use Rattle.records.proofs.Provided.{provided_some}
 use Rattle.code.specs.Layout.{record_of}
 use Rattle.code.proofs.record.Record.new.Goals as goal
 
