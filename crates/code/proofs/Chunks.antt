@@ -1,11 +1,20 @@
--- The chunks of a list, by their numbers. Assumes nothing.
-use Rattle.std.proofs.Common.{◌≡◌, ℕ, zero, suc, ◌+◌, ◌*◌, ◌<◌, List, get_or, take, drop, ap, ◌∙◌, arith}
+-- The records of a code, as the chunks of 16 bytes that it begins with. Assumes nothing.
+use Rattle.std.proofs.Common.{◌≡◌, ℕ, zero, suc, ◌+◌, ◌*◌, ◌/◌, ◌<◌, ◌≤◌, Bor, List, length, get_or, take, drop, Some, None, Option, MatchOption, ap, ◌∙◌, arith, length-drop, length-take}
+use Rattle.std.specs.List.{HoldsAt}
 use Rattle.std.specs.Simd.{first_chunks}
 use Rattle.std.proofs.lemmas.List.{drop-drop}
+use Rattle.code.specs.Layout.{row}
 
-pub chunk_at : {X : Type 0} (n k : ℕ) (xs : List X) (i : ℕ) (d : List X) → i < k → get_or (first_chunks n k xs) i d ≡ take n (drop (n * i) xs)
+chunk_at : {X : Type 0} (n k : ℕ) (xs : List X) (i : ℕ) (d : List X) → i < k → get_or (first_chunks n k xs) i d ≡ take n (drop (n * i) xs)
 chunk_at n zero xs i d within = absurd (omega arith)
 chunk_at n (suc k) xs zero d within = let none : 0 ≡ n * 0 = omega arith in ap (λ m. take n (drop m xs)) none
 chunk_at n (suc k) xs (suc i) d within =
     let next : n + n * i ≡ n * suc i = omega arith in
     chunk_at n k (drop n xs) i d (omega arith) ∙ ap (take n) (drop-drop (n * i) n xs ∙ ap (λ m. drop m xs) next)
+
+-- what a look at chunk i found
+module _ (code : List ℕ) (i : ℕ) (rows : List (List ℕ)) (chunks : rows ≡ first_chunks 16 (length code / 16) code) (many : length rows ≡ length code / 16) where
+  pub row_found : (o : Option (Bor (List ℕ))) → MatchOption o (length rows ≤ i) (λ x. (i < length rows) × HoldsAt (λ y. x.now ≡ y) rows i) → MatchOption o (length (row code i) < 16) (λ x. x.now ≡ row code i)
+  row_found None past = omega (arith, many, length-take 16 (drop (16 * i) code), length-drop (16 * i) code)
+  row_found (Some x) here =
+      here.1 x.now ∙ ap (λ rs. get_or rs i x.now) chunks ∙ chunk_at 16 (length code / 16) code i x.now (omega (arith, here.0, many))

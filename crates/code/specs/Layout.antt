@@ -60,6 +60,10 @@ decode bs =
     option_and_then (λ o. option_and_then (record_of o (u16_at bs 2) (i32_at bs 4)) (target_of (byte_at bs 1) (fields_at bs))) (operation (byte_at bs 0))
     else None
 
--- record i of code: its bytes begin at 16 × i
+-- the bytes of record i, as far as they are there: they begin at 16 × i
+abbrev pub row : List ℕ → ℕ → List ℕ
+row code i = take 16 (drop (16 * i) code)
+
+-- record i of code
 abbrev pub record_at : List ℕ → ℕ → Option Record
-record_at code i = decode (take 16 (drop (16 * i) code))
+record_at code i = decode (row code i)

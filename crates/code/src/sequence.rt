@@ -1,6 +1,6 @@
 // The records of a stretch of code, and whether each is lawful.
-ghost use Rattle.std.specs.Prelude.{◌≡◌};
-ghost use Rattle.code.specs.Layout.{record_at};
+ghost use Rattle.std.specs.Prelude.{◌≡◌, ◌<◌, length, MatchOption};
+ghost use Rattle.code.specs.Layout.{record_at, row};
 ghost use Rattle.code.specs.Verdict.{is_simple, lawful_at};
 
 use crate::record::Record;
@@ -9,12 +9,19 @@ use crate::target::REAR;
 /// The bytes of one record.
 pub const RECORD_BYTES: usize = 16;
 
+// The bytes of record `index`, if all 16 are there.
+fn row(code: &[u8], index: usize) -> Option<&[u8; 16]>
+    ensures { MatchOption result (length (row code.now index) < 16) (λ bytes. bytes.now ≡ row code.now index) }
+{
+    let (rows, _) = code.as_chunks::<RECORD_BYTES>();
+    rows.get(index)
+}
+
 /// Record `index` of the code, if its 16 bytes are there and laid out well.
 pub fn record_at(code: &[u8], index: usize) -> Option<Record>
     ensures { result ≡ record_at code.now index }
 {
-    let (rows, _) = code.as_chunks::<RECORD_BYTES>();
-    Record::read(rows.get(index)?)
+    Record::read(row(code, index)?)
 }
 
 /// Whether byte 1 of record 0 says that the code is simple.
