@@ -55,13 +55,9 @@ fn is_read(rt: &impl Abort, heap: Global, good: Good) -> Result<(), Fail> {
 fn is_refused(rt: &impl Abort, heap: Global, bad: Bad, expected: Expected) -> Result<(), Fail> {
     let number = bad.number;
     let mut buffer = vec![in heap; FILL; bad.text.len() / 2]?;
-    match read_bench(bad.text, buffer.as_mut_slice()) {
-        Ok(_) => Err(Fail::new("the text was read")),
-        Err(error) => {
-            assert_eq!(rt; error, TextError::Line { number, expected });
-            holds_rows(rt, buffer.as_slice(), number.saturating_sub(2))
-        }
-    }
+    let answer = read_bench(bad.text, buffer.as_mut_slice());
+    assert_eq!(rt; answer, Err(TextError::Line { number, expected }));
+    holds_rows(rt, buffer.as_slice(), number.saturating_sub(2))
 }
 
 #[test]
@@ -171,10 +167,10 @@ fn short_buffers_are_refused(rt: HostRuntime) -> Result<(), Fail> {
     ];
     for text in texts {
         let mut buffer = [FILL; 17];
-        match read_bench(text, &mut buffer) {
-            Ok(_) => return Err(Fail::new("the text was read")),
-            Err(error) => assert_eq!(rt; error, TextError::BufferTooShort),
-        }
+        assert_eq!(rt;
+            read_bench(text, &mut buffer),
+            Err(TextError::BufferTooShort)
+        );
         holds_rows(&rt, &buffer, 0)?;
     }
     Ok(())

@@ -4,22 +4,8 @@ use std::alloc::{AllocError, Global};
 use std::process::Abort;
 use std::test::Fail;
 
-#[derive(Clone, Copy)]
-struct Example {
-    code: &'static [u8],
-    places: usize,
-    results: usize,
-    answer: &'static str,
-}
-
-fn case(code: &'static [u8], places: usize, results: usize, answer: &'static str) -> Example {
-    Example {
-        code,
-        places,
-        results,
-        answer,
-    }
-}
+// A code, the places and the results that it is checked with, and what is printed of the answer.
+type Example = (&'static [u8], usize, usize, &'static str);
 
 // What is printed of the checker's answer.
 fn answer(heap: Global, code: &[u8], places: usize, results: usize) -> Result<String, AllocError> {
@@ -29,9 +15,10 @@ fn answer(heap: Global, code: &[u8], places: usize, results: usize) -> Result<St
     }
 }
 
-fn is_answered(rt: &impl Abort, heap: Global, case: Example) -> Result<(), Fail> {
-    let printed = answer(heap, case.code, case.places, case.results)?;
-    assert_eq!(rt; printed.as_str(), case.answer);
+fn are_answered(rt: &impl Abort, heap: Global, examples: &[Example]) -> Result<(), Fail> {
+    for &(code, places, results, wanted) in examples {
+        assert_eq!(rt; answer(heap, code, places, results)?.as_str(), wanted);
+    }
     Ok(())
 }
 
@@ -75,159 +62,150 @@ const INDEXED_THEN_SIMPLE: &[u8] =
 
 #[test]
 fn sound_code_passes(rt: HostRuntime) -> Result<(), Fail> {
-    let cases = [
-        case(b"", 0, 0, "passes"),
-        case(b"", 4096, 0, "passes"),
-        case(SQUARE, 2, 1, "passes"),
-        case(SQUARE, 5000, 1, "passes"),
-        case(DIFFERENCE, 2, 1, "passes"),
-        case(b"\x02\0\0\0\0\0\0\0\0\0\0\0\0\0\0\0", 0, 0, "passes"),
-        case(
+    let examples: [Example; 8] = [
+        (b"", 0, 0, "passes"),
+        (b"", 4096, 0, "passes"),
+        (SQUARE, 2, 1, "passes"),
+        (SQUARE, 5000, 1, "passes"),
+        (DIFFERENCE, 2, 1, "passes"),
+        (b"\x02\0\0\0\0\0\0\0\0\0\0\0\0\0\0\0", 0, 0, "passes"),
+        (
             b"\x02\x04\0\0\xff\xff\xff\xff\0\0\x01\0\x02\0\x03\0",
             4,
             4,
             "passes",
         ),
-        case(
+        (
             b"\x01\x01\xff\xff\x3f\0\0\0\0\0\0\0\0\0\0\0",
             1,
             1,
             "passes",
         ),
     ];
-    for case in cases {
-        is_answered(&rt, rt.alloc(), case)?;
-    }
-    Ok(())
+    are_answered(&rt, rt.alloc(), &examples)
 }
 
 #[test]
 fn unsound_code_is_refused(rt: HostRuntime) -> Result<(), Fail> {
-    let cases = [
-        case(LITERAL_TO_1, 2, 1, "refused 25 at 1"),
-        case(LITERAL_TO_1, 1, 1, "refused 24 at 0"),
-        case(LITERAL_TO_1, 0, 1, "refused 24 at 0"),
-        case(b"", 0, 1, "refused 25 at 0"),
-        case(b"", 8, 16, "refused 25 at 0"),
-        case(ADD_TO_0, 2, 1, "refused 22 at 0"),
-        case(LITERAL_ADD, 2, 1, "refused 22 at 1"),
-        case(LITERAL_ADD, 1, 1, "refused 22 at 1"),
-        case(TWICE_TO_0, 2, 1, "refused 23 at 1"),
-        case(FULL_THEN_FAR, 2, 1, "refused 23 at 1"),
-        case(FREE_THEN_FAR, 2, 1, "refused 24 at 1"),
-        case(SQUARE, 1, 1, "refused 24 at 1"),
-        case(SQUARE, 2, 0, "refused 25 at 4"),
-        case(SQUARE, 2, 2, "refused 25 at 4"),
-        case(DIFFERENCE, 1, 1, "refused 24 at 1"),
-        case(
+    let examples: [Example; 18] = [
+        (LITERAL_TO_1, 2, 1, "refused 25 at 1"),
+        (LITERAL_TO_1, 1, 1, "refused 24 at 0"),
+        (LITERAL_TO_1, 0, 1, "refused 24 at 0"),
+        (b"", 0, 1, "refused 25 at 0"),
+        (b"", 8, 16, "refused 25 at 0"),
+        (ADD_TO_0, 2, 1, "refused 22 at 0"),
+        (LITERAL_ADD, 2, 1, "refused 22 at 1"),
+        (LITERAL_ADD, 1, 1, "refused 22 at 1"),
+        (TWICE_TO_0, 2, 1, "refused 23 at 1"),
+        (FULL_THEN_FAR, 2, 1, "refused 23 at 1"),
+        (FREE_THEN_FAR, 2, 1, "refused 24 at 1"),
+        (SQUARE, 1, 1, "refused 24 at 1"),
+        (SQUARE, 2, 0, "refused 25 at 4"),
+        (SQUARE, 2, 2, "refused 25 at 4"),
+        (DIFFERENCE, 1, 1, "refused 24 at 1"),
+        (
             b"\x02\x01\0\0\0\0\0\0\xff\x0f\0\0\0\0\0\0",
             5000,
             0,
             "refused 25 at 1",
         ),
-        case(
+        (
             b"\x02\x01\0\0\0\0\0\0\0\x10\0\0\0\0\0\0",
             5000,
             0,
             "refused 24 at 0",
         ),
-        case(
+        (
             b"\x02\x01\0\0\0\0\0\0\0\x10\0\0\0\0\0\0",
             4096,
             0,
             "refused 24 at 0",
         ),
     ];
-    for case in cases {
-        is_answered(&rt, rt.alloc(), case)?;
-    }
-    Ok(())
+    are_answered(&rt, rt.alloc(), &examples)
 }
 
 #[test]
 fn malformed_code_is_refused(rt: HostRuntime) -> Result<(), Fail> {
-    let cases = [
-        case(
+    let examples: [Example; 16] = [
+        (
             b"\x02\x01\0\0\0\0\0\0\0\0\0\0\0\0\0\0\0",
             2,
             1,
             "refused 20 at 0",
         ),
-        case(b"\x09", 2, 17, "refused 20 at 0"),
-        case(b"", 2, 17, "refused 16 at 0"),
-        case(
+        (b"\x09", 2, 17, "refused 20 at 0"),
+        (b"", 2, 17, "refused 16 at 0"),
+        (
             b"\x09\x01\0\0\0\0\0\0\0\0\0\0\0\0\0\0",
             2,
             17,
             "refused 16 at 0",
         ),
-        case(SIMPLE_THEN_INDEXED, 4, 3, "refused 21 at 2"),
-        case(INDEXED_THEN_SIMPLE, 4, 2, "refused 21 at 1"),
-        case(
+        (SIMPLE_THEN_INDEXED, 4, 3, "refused 21 at 2"),
+        (INDEXED_THEN_SIMPLE, 4, 2, "refused 21 at 1"),
+        (
             b"\0\x01\0\0\0\0\0\0\0\0\0\0\0\0\0\0",
             2,
             1,
             "refused 21 at 0",
         ),
-        case(
+        (
             b"\x08\x01\0\0\0\0\0\0\0\0\0\0\0\0\0\0",
             2,
             1,
             "refused 21 at 0",
         ),
-        case(
+        (
             b"\x01\x01\0\0\x40\0\0\0\0\0\0\0\0\0\0\0",
             2,
             1,
             "refused 21 at 0",
         ),
-        case(
+        (
             b"\x01\x01\0\0\xff\xff\xff\xff\0\0\0\0\0\0\0\0",
             2,
             1,
             "refused 21 at 0",
         ),
-        case(
+        (
             b"\x04\x01\0\0\x01\0\0\0\0\0\0\0\0\0\0\0",
             2,
             1,
             "refused 21 at 0",
         ),
-        case(
+        (
             b"\x02\x05\0\0\0\0\0\0\0\0\x01\0\x02\0\x03\0",
             9,
             1,
             "refused 21 at 0",
         ),
-        case(
+        (
             b"\x02\x01\0\0\0\0\0\0\0\0\x01\0\0\0\0\0",
             9,
             1,
             "refused 21 at 0",
         ),
-        case(
+        (
             b"\x02\x02\0\0\0\0\0\0\x01\0\x01\0\0\0\0\0",
             9,
             1,
             "refused 21 at 0",
         ),
-        case(
+        (
             b"\x02\x02\0\0\0\0\0\0\x02\0\x01\0\0\0\0\0",
             9,
             1,
             "refused 21 at 0",
         ),
-        case(
+        (
             b"\x02\xff\0\0\0\0\0\0\x01\0\0\0\0\0\0\0",
             9,
             1,
             "refused 21 at 0",
         ),
     ];
-    for case in cases {
-        is_answered(&rt, rt.alloc(), case)?;
-    }
-    Ok(())
+    are_answered(&rt, rt.alloc(), &examples)
 }
 
 #[test]

@@ -5,17 +5,13 @@ use std::test::Fail;
 
 #[test]
 fn a_record_is_written_and_read_back(rt: HostRuntime) -> Result<(), Fail> {
-    let Some(places) = Places::new(2, [3, 515, 0, 0]) else {
-        return Err(Fail::new("no places"));
-    };
-    let Some(record) = Record::new(Operation::Literal, 258, -2, Target::At(places)) else {
-        return Err(Fail::new("no record"));
-    };
+    let places = Places::new(2, [3, 515, 0, 0]).ok_or_else(|| Fail::new("no places"))?;
+    let record = Record::new(Operation::Literal, 258, -2, Target::At(places)).ok_or_else(
+        || Fail::new("no record"),
+    )?;
     let bytes = record.write();
     assert!(rt; &bytes == b"\x02\x02\x02\x01\xfe\xff\xff\xff\x03\0\x03\x02\0\0\0\0");
-    let Some(back) = Record::read(&bytes) else {
-        return Err(Fail::new("not read"));
-    };
+    let back = Record::read(&bytes).ok_or_else(|| Fail::new("not read"))?;
     assert_eq!(rt; back.operation, Operation::Literal);
     assert_eq!(rt; back.node, 258);
     assert_eq!(rt; back.argument, -2);
@@ -43,9 +39,7 @@ fn what_a_record_may_not_hold_is_refused(rt: HostRuntime) {
 fn refusals_are_printed(rt: HostRuntime) -> Result<(), Fail> {
     let unknown = Reason::NameNotKnown.at(2);
     assert_eq!(rt; unknown.to_string(rt.alloc())?.as_str(), "refused 6 at 2");
-    let Some(fault) = Fault::new(3) else {
-        return Err(Fail::new("no fault"));
-    };
+    let fault = Fault::new(3).ok_or_else(|| Fail::new("no fault"))?;
     let faulted = Reason::Faulted(fault).at(8);
     assert_eq!(rt;
         faulted.to_string(rt.alloc())?.as_str(),

@@ -1,5 +1,5 @@
 // The layout of a record in 16 bytes: making, reading and writing it.
-ghost use Rattle.std.specs.Prelude.{◌≡◌, false, Some, MatchOption, ◌≢◌};
+ghost use Rattle.std.specs.Prelude.{◌≡◌, false, Some, MatchOption, ◌≢◌, nat_lt};
 ghost use Rattle.std.specs.Range.{range_inclusive_end, range_inclusive_exhausted, range_inclusive_start};
 ghost use Rattle.code.specs.Lawful.{all_zero, argument_range, ascending, places_lawful};
 ghost use Rattle.code.specs.Layout.{count_byte, decode, is_rear, layout, place_fields, places_of, record_of, target_of};
@@ -20,10 +20,17 @@ fn lawful_places(count: u8, fields: &[u16; 4]) -> bool
     ascends(used) && all_zero(unused)
 }
 
+// Whether one place may stand before the other.
+fn in_order(a: u16, b: u16) -> bool
+    ensures { result ≡ nat_lt a b }
+{
+    a < b
+}
+
 fn ascends(places: &[u16]) -> bool
     ensures { result ≡ ascending places.now }
 {
-    places.is_sorted_by(|a, b| a < b)
+    places.is_sorted_by(|&a, &b| in_order(a, b))
 }
 
 fn all_zero(fields: &[u16]) -> bool

@@ -30,6 +30,13 @@ impl Model for Marks {
     ghost invariant = { λ m. InStep m.ring.size m.full (held m.ring m.slots) };
 }
 
+// More places than a queue has count as the most.
+fn at_most_all(places: usize) -> usize
+    ensures { result ≡ min places MOST_PLACES }
+{
+    places.min(MOST_PLACES)
+}
+
 impl Marks {
     // That many empty places, at most 4,096.
     pub(crate) fn empty(places: usize) -> Marks
@@ -37,7 +44,7 @@ impl Marks {
     {
         Marks {
             slots: [false; MOST_PLACES],
-            ring: Ring::new(places.min(MOST_PLACES)),
+            ring: Ring::new(at_most_all(places)),
             full: 0,
         }
     }

@@ -6,6 +6,6 @@ use Rattle.code.proofs.marks.Marks.empty.Goals as goal
 pub returns : goal.returns
 returns c =
     let made = c.new.ensures in
-    let few : c.new.result.size ≤ 4096 = omega (arith, made.size, c.min.ensures) in
+    let few : c.new.result.size ≤ 4096 = omega (arith, made.size, c.at_most_all.ensures) in
     held_new c.new.result (replicate 4096 false) made.front ∙ take-replicate c.new.result.size 4096 false few
-    ∙ ap (λ n. replicate n false) (made.size ∙ c.min.ensures)
+    ∙ ap (λ n. replicate n false) (made.size ∙ c.at_most_all.ensures)
