@@ -1,37 +1,50 @@
 -- What a cut at a mark gives.
-use Rattle.std.proofs.Common.{◌≡◌, ℕ, Bool, true, false, cond, eqb, ◌⊎◌, List, [], ◌∷◌, ◌++◌, refl, ap, ◌∙◌, inl, inr, ⊎_elim}
-use Rattle.std.proofs.lemmas.Bool.{eqb-true, eqb-false, eq-eqb, ne_eqb, cond-true, cond-false, cond_both}
-use Rattle.bench_text.specs.Cut.{before, after}
+use Rattle.std.proofs.Common.{◌≡◌, ◌==◌, ℕ, suc, ◌+◌, Bool, true, false, cond, not, ◌⊎◌, List, [], ◌∷◌, ◌++◌, length, get_or, take, drop, refl, ap, ◌∙◌, inl, inr, ⊎_elim, arith}
+use Rattle.std.specs.List.{before_first, after_first, position_or_len}
+use Rattle.std.proofs.lemmas.Bool.{eqb-true, eqb-false, cases_lt}
+use Rattle.std.proofs.lemmas.Bool.Decides.{nat_tests}
+use Rattle.std.proofs.lemmas.Grind.{common_steps}
+use Rattle.std.proofs.lemmas.List.Sums.{split_at_first, passes_at_first, fails_before_first, position_or_len_is}
+use Rattle.std.proofs.Math.Seq.{drop-append-add}
 use Rattle.bench_text.specs.Spelling.{Free}
 
-pub before_free : (mark : ℕ) (bs : List ℕ) → Free mark (before mark bs)
-before_free mark [] = tt
-before_free mark (b ∷ bs) = cond_both (eqb b mark) [] (b ∷ before mark bs) (Free mark) (λ _. tt) (λ other. (eqb-false b mark other, before_free mark bs))
+pub cut-cons : {X : Type 0} (p : X → Bool) (x : X) (xs : List X) → (before_first p (x ∷ xs) ≡ cond (p x) [] (x ∷ before_first p xs)) × (after_first p (x ∷ xs) ≡ cond (p x) xs (after_first p xs))
+cut-cons {X} p x xs = by (p x)
+  where
+    n : ℕ
+    n = position_or_len p xs
 
--- the two parts, with the mark between them if there is one
-abbrev pub Rejoined : ℕ → List ℕ → List ℕ → List ℕ → Type 0
-Rejoined mark bs front back = ((bs ≡ front) × (back ≡ [])) ⊎ (bs ≡ front ++ (mark ∷ back))
+    by : (t : Bool) → (take (cond (not t) (1 + n) 0) (x ∷ xs) ≡ cond t [] (x ∷ take n xs)) × (drop (cond (not t) (1 + n) 0 + 1) (x ∷ xs) ≡ cond t xs (drop (n + 1) xs))
+    by true = (refl, refl)
+    by false =
+        let next : 1 + n ≡ suc n = omega arith in
+        let after : 1 + n + 1 ≡ suc (n + 1) = omega arith in
+        (ap (λ (k : ℕ). take k (x ∷ xs)) next, ap (λ (k : ℕ). drop k (x ∷ xs)) after)
 
-pub rejoined : (mark : ℕ) (bs : List ℕ) → Rejoined mark bs (before mark bs) (after mark bs)
-rejoined mark [] = inl (refl, refl)
-rejoined mark (b ∷ bs) =
-    let Goal : Bool → Type 0 = λ t. Rejoined mark (b ∷ bs) (cond t [] (b ∷ before mark bs)) (cond t bs (after mark bs)) in
-    let way : (t : Bool) → (t ≡ true → b ≡ mark) → Goal t = λ t. elim t as (λ t. (t ≡ true → b ≡ mark) → Goal t) [
-      | true ↦ λ same. inr (ap (λ (x : ℕ). x ∷ bs) (same refl))
-      | false ↦ λ same. ⊎_elim (λ h. inl (ap (λ (x : List ℕ). b ∷ x) h.0, h.1)) (λ h. inr (ap (λ (x : List ℕ). b ∷ x) h)) (rejoined mark bs)
-    ] in
-    way (eqb b mark) (eqb-true b mark)
+module _ (mark : ℕ) where
+  pub before_free : (bs : List ℕ) → Free mark (before_first (λ b. b == mark) bs)
+  before_free bs k d within same =
+      let other = fails_before_first (λ b. b == mark) bs k d (grind (arith, common_steps)) in
+      eqb-false (get_or bs k d) mark other (grind (arith, common_steps))
 
-pub cut_marked : (mark : ℕ) (front back : List ℕ) → Free mark front → (before mark (front ++ (mark ∷ back)) ≡ front) × (after mark (front ++ (mark ∷ back)) ≡ back)
-cut_marked mark [] back free = let here = eq-eqb mark mark refl in (cond-true _ _ _ here, cond-true _ _ _ here)
-cut_marked mark (b ∷ front) back free =
-    let here = ne_eqb b mark free.0 in
-    let more = cut_marked mark front back free.1 in
-    (cond-false _ _ _ here ∙ ap (λ (x : List ℕ). b ∷ x) more.0, cond-false _ _ _ here ∙ more.1)
+  -- the two parts, with the mark between them if there is one
+  abbrev pub Rejoined : List ℕ → List ℕ → List ℕ → Type 0
+  Rejoined bs front back = ((bs ≡ front) × (back ≡ [])) ⊎ (bs ≡ front ++ (mark ∷ back))
 
-pub cut_free : (mark : ℕ) (bs : List ℕ) → Free mark bs → (before mark bs ≡ bs) × (after mark bs ≡ [])
-cut_free mark [] free = (refl, refl)
-cut_free mark (b ∷ bs) free =
-    let here = ne_eqb b mark free.0 in
-    let more = cut_free mark bs free.1 in
-    (cond-false _ _ _ here ∙ ap (λ (x : List ℕ). b ∷ x) more.0, cond-false _ _ _ here ∙ more.1)
+  pub rejoined : (bs : List ℕ) → Rejoined bs (before_first (λ b. b == mark) bs) (after_first (λ b. b == mark) bs)
+  rejoined bs =
+      let first = position_or_len (λ b. b == mark) bs in
+      ⊎_elim
+      (λ within. inr (split_at_first (λ b. b == mark) bs 0 within ∙ ap (λ (x : ℕ). take first bs ++ (x ∷ drop (first + 1) bs)) (eqb-true (get_or bs first 0) mark (passes_at_first (λ b. b == mark) bs 0 within))))
+      (λ past. inl (grind (arith, common_steps), grind (arith, common_steps)))
+      (cases_lt first (length bs))
+
+  pub cut_marked : (front back : List ℕ) → Free mark front → (before_first (λ b. b == mark) (front ++ (mark ∷ back)) ≡ front) × (after_first (λ b. b == mark) (front ++ (mark ∷ back)) ≡ back)
+  cut_marked front back free =
+      let first : position_or_len (λ b. b == mark) (front ++ (mark ∷ back)) ≡ length front = position_or_len_is (λ b. b == mark) (front ++ (mark ∷ back)) (length front) 0 (grind (arith, common_steps)) (λ k below. let other = free k 0 below in grind (arith, common_steps, nat_tests)) (λ within. grind (arith, common_steps, nat_tests)) in
+      (grind (arith, common_steps), ap (λ (n : ℕ). drop (n + 1) (front ++ (mark ∷ back))) first ∙ drop-append-add front (mark ∷ back) 1)
+
+  pub cut_free : (bs : List ℕ) → Free mark bs → (before_first (λ b. b == mark) bs ≡ bs) × (after_first (λ b. b == mark) bs ≡ [])
+  cut_free bs free =
+      let first : position_or_len (λ b. b == mark) bs ≡ length bs = position_or_len_is (λ b. b == mark) bs (length bs) 0 (omega arith) (λ k below. let other = free k 0 below in grind (arith, common_steps, nat_tests)) (λ within. absurd (omega arith)) in
+      (grind (arith, common_steps), grind (arith, common_steps))

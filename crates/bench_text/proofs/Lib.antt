@@ -1,14 +1,12 @@
 -- The lemmas: on the loops, on what each part spells, and on the whole text.
-pub mod ChoiceValues
-pub mod FirstMark
 pub mod HexRecords
 pub mod TextLaw
 pub mod LineLayout
 pub mod LineByLine
 pub mod CutAtMark
 pub mod LineForms
-pub mod DecimalDigits
 pub mod BufferContents
 pub mod RecordBytes
 pub mod RecordLines
 pub mod DecimalNumbers
+pub mod Options

@@ -1,11 +1,9 @@
 -- Which lines a text has, by how it is laid out.
-use Rattle.std.proofs.Common.{◌≡◌, ℕ, ◌<◌, List, [], ◌∷◌, ◌++◌, length, sym, refl, ap, ◌∙◌, subst, inl, inr, ⊎_elim, append_assoc, append-nil, arith, length-append}
-use Rattle.std.specs.List.{AllByRecursion}
+use Rattle.std.proofs.Common.{◌≡◌, ◌==◌, ℕ, ◌<◌, List, [], ◌∷◌, ◌++◌, length, sym, refl, ap, ◌∙◌, subst, inl, inr, ⊎_elim, append_assoc, append-nil, arith, length-append}
+use Rattle.std.specs.List.{AllByRecursion, before_first, after_first}
 use Rattle.std.proofs.lemmas.List.{append_cancel_right}
-use Rattle.bench_text.specs.Cut.{before, after}
 use Rattle.bench_text.specs.Lines.{lines}
 use Rattle.bench_text.specs.Spelling.{ended, Laid, Free, Ends}
-use Rattle.bench_text.proofs.ChoiceValues.{clash}
 use Rattle.bench_text.proofs.LineByLine.{lines_step}
 use Rattle.bench_text.proofs.CutAtMark.{before_free, rejoined, cut_marked, cut_free}
 
@@ -51,29 +49,29 @@ lines_laid text l ls whole laid =
     ⊎_elim (λ e. ap lines (e ∙ sym (append-nil (ended (l ∷ ls)))) ∙ lines-ended (l ∷ ls) [] (all_free (l ∷ ls) whole) ∙ append-nil (l ∷ ls)) (lines_open text l ls whole) laid
 
 -- the first line and the rest of a text that has lines
-opened : (text l : List ℕ) (ls : List (List ℕ)) → lines text ≡ l ∷ ls → (0 < length text) × (l ≡ before 10 text) × (lines (after 10 text) ≡ ls)
-opened [] l ls e = clash (cc)
+opened : (text l : List ℕ) (ls : List (List ℕ)) → lines text ≡ l ∷ ls → (0 < length text) × (l ≡ before_first (λ b. b == 10) text) × (lines (after_first (λ b. b == 10) text) ≡ ls)
+opened [] l ls e = absurd (cc)
 opened (b ∷ bs) l ls e =
     let step = lines_step (b ∷ bs) (omega arith) in
     (omega arith, cc, cc)
 
 pub no_lines : (text : List ℕ) → lines text ≡ [] → text ≡ []
 no_lines [] e = refl
-no_lines (b ∷ bs) e = let step = lines_step (b ∷ bs) (omega arith) in clash (cc)
+no_lines (b ∷ bs) e = let step = lines_step (b ∷ bs) (omega arith) in absurd (cc)
 
 pub laid_lines : (ls : List (List ℕ)) (text : List ℕ) → lines text ≡ ls → Laid text ls
 laid_lines [] text e = inl (no_lines text e)
 laid_lines (l ∷ ls) text e =
     let parts = opened text l ls e in
     let first = parts.1 in
-    let more = laid_lines ls (after 10 text) parts.2 in
+    let more = laid_lines ls (after_first (λ b. b == 10) text) parts.2 in
     ⊎_elim
     (λ whole. let none : ls ≡ [] = sym parts.2 ∙ ap lines whole.1 in inr (ap (λ (x : List ℕ). x ++ (10 ∷ [])) (whole.0 ∙ sym first) ∙ ap (λ (x : List (List ℕ)). l ++ (10 ∷ ended x)) (sym none)))
     (λ split.
-    let same : text ≡ l ++ (10 ∷ after 10 text) = split ∙ ap (λ (x : List ℕ). x ++ (10 ∷ after 10 text)) (sym first) in
+    let same : text ≡ l ++ (10 ∷ after_first (λ b. b == 10) text) = split ∙ ap (λ (x : List ℕ). x ++ (10 ∷ after_first (λ b. b == 10) text)) (sym first) in
     ⊎_elim
     (λ rest. inl (same ∙ ap (λ (x : List ℕ). l ++ (10 ∷ x)) rest))
-    (λ rest. inr (ap (λ (x : List ℕ). x ++ (10 ∷ [])) same ∙ append_assoc l (10 ∷ after 10 text) (10 ∷ []) ∙ ap (λ (x : List ℕ). l ++ (10 ∷ x)) rest))
+    (λ rest. inr (ap (λ (x : List ℕ). x ++ (10 ∷ [])) same ∙ append_assoc l (10 ∷ after_first (λ b. b == 10) text) (10 ∷ []) ∙ ap (λ (x : List ℕ). l ++ (10 ∷ x)) rest))
     more)
     (rejoined 10 text)
 
@@ -90,13 +88,13 @@ stands [] line more text e =
     let parts = opened text line more e in
     let first = parts.1 in
     let single = subst (Free 10) (sym first) (before_free 10 text) in
-    let at : (rest : List ℕ) → text ≡ before 10 text ++ rest → Ends rest → Stands text [] line = λ rest same ends.
+    let at : (rest : List ℕ) → text ≡ before_first (λ b. b == 10) text ++ rest → Ends rest → Stands text [] line = λ rest same ends.
     let laid : text ≡ line ++ rest = same ∙ ap (λ (x : List ℕ). x ++ rest) (sym first) in
     record { rest = rest; laid = laid; there = subst (λ (x : List ℕ). 0 < length x) laid parts.0; single = single; ends = ends } in
-    ⊎_elim (λ whole. at [] (whole.0 ∙ sym (append-nil (before 10 text))) tt) (λ split. at (10 ∷ after 10 text) split refl) (rejoined 10 text)
+    ⊎_elim (λ whole. at [] (whole.0 ∙ sym (append-nil (before_first (λ b. b == 10) text))) tt) (λ split. at (10 ∷ after_first (λ b. b == 10) text) split refl) (rejoined 10 text)
 stands (l ∷ front) line more text e =
     let parts = opened text l (front ++ (line ∷ more)) e in
-    let later = stands front line more (after 10 text) parts.2 in
+    let later = stands front line more (after_first (λ b. b == 10) text) parts.2 in
     ⊎_elim
     (λ whole. let none = ap length (sym later.laid ∙ whole.1) in absurd (omega (arith, later.there, none, length-append (ended front) (line ++ later.rest))))
     (λ split. record {

@@ -1,44 +1,51 @@
--- A loop that reads a code record byte by byte.
-use Rattle.std.proofs.Common.{◌≡◌, ℕ, ◌+◌, ◌*◌, ◌<◌, ◌≤◌, List, [], ◌∷◌, ◌++◌, length, get_or, take, drop, set, Some, None, Option, sym, refl, ap, ◌∙◌, append_assoc, append-nil, arith}
-use Rattle.std.specs.Option.{option_map}
-use Rattle.std.proofs.lemmas.List.{drop_more, drop_all, take_all, take_more_set}
-use Rattle.bench_text.specs.Choice.{choose}
-use Rattle.std.proofs.lemmas.Bool.{eq-eqb, ne_eqb, cond-true, cond-false}
+-- What the pairs of digits of a record say of the whole.
+use Rattle.std.proofs.Common.{◌≡◌, ℕ, zero, suc, ◌+◌, ◌*◌, ◌/◌, ◌<◌, List, [], ◌∷◌, length, get_or, set, Some, None, Option, sym, refl, ap, ◌∙◌, ⊎_elim, arith}
+use Rattle.std.specs.Simd.{first_chunks}
+use Rattle.std.proofs.lemmas.Bool.{cases_eq, eq-eqb, cond-true}
+use Rattle.std.proofs.lemmas.Grind.{common_steps}
+use Rattle.bench_text.specs.Steps.{◌>>=◌}
 use Rattle.bench_text.specs.Hex.{hex_byte, hex_bytes, hex_record}
 
--- the first i bytes are what the first 2 * i digits spell
-abbrev pub Spelt : List ℕ → List ℕ → ℕ → Type 0
-Spelt line bytes i = option_map (λ more. take i bytes ++ more) (hex_bytes (drop (2 * i) line)) ≡ hex_bytes line
+-- the byte of the pair at i
+abbrev pub byte_at : List (List ℕ) → ℕ → Option ℕ
+byte_at pairs i = hex_byte (get_or (get_or pairs i []) 0 0) (get_or (get_or pairs i []) 1 0)
 
-pub spelt_none : (o : Option (List ℕ)) → option_map (λ more. more) o ≡ o
-spelt_none None = refl
-spelt_none (Some more) = refl
+all_bytes : (line bytes : List ℕ) (n : ℕ) → length line ≡ 2 * n → length bytes ≡ n → ((i : ℕ) → i < n → byte_at (first_chunks 2 n line) i ≡ Some (get_or bytes i 0)) → hex_bytes line ≡ Some bytes
+all_bytes [] [] n long room each = refl
+all_bytes [] (b ∷ bytes) n long room each = absurd (omega arith)
+all_bytes (d ∷ ds) [] n long room each = absurd (omega arith)
+all_bytes (d ∷ ds) (b ∷ bytes) zero long room each = absurd (omega arith)
+all_bytes (d ∷ []) (b ∷ bytes) (suc n) long room each = absurd (omega arith)
+all_bytes (d ∷ e ∷ ds) (b ∷ bytes) (suc n) long room each =
+    let more = all_bytes ds bytes n (omega arith) (omega arith) (λ i below. each (suc i) (omega arith)) in
+    λ i. each 0 (omega arith) i >>= λ x. more i >>= λ xs. Some (x ∷ xs)
+
+no_bytes : (line : List ℕ) (n i : ℕ) → length line ≡ 2 * n → i < n → None ≡ byte_at (first_chunks 2 n line) i → None ≡ hex_bytes line
+no_bytes line zero i long within none = absurd (omega arith)
+no_bytes [] (suc n) i long within none = absurd (omega arith)
+no_bytes (d ∷ []) (suc n) i long within none = absurd (omega arith)
+no_bytes (d ∷ e ∷ ds) (suc n) zero long within none = ap (λ (o : Option ℕ). o >>= λ b. hex_bytes ds >>= λ bs. Some (b ∷ bs)) none
+no_bytes (d ∷ e ∷ ds) (suc n) (suc i) long within none = by (hex_byte d e) ∙ ap (λ (o : Option (List ℕ)). hex_byte d e >>= λ b. o >>= λ bs. Some (b ∷ bs)) (no_bytes ds n i (omega arith) (omega arith) none)
+  where
+    by : (o : Option ℕ) → None ≡ (o >>= λ b. None >>= λ (bs : List ℕ). Some (b ∷ bs))
+    by None = refl
+    by (Some b) = refl
+
+-- the bytes so far, with one more
+pub one_more : (f : ℕ → Option ℕ) (bytes : List ℕ) (i b : ℕ) → i < length bytes → ((k : ℕ) → k < i → f k ≡ Some (get_or bytes k 0)) → f i ≡ Some b → (k : ℕ) → k < i + 1 → f k ≡ Some (get_or (set bytes i b) k 0)
+one_more f bytes i b within below here k bound =
+    ⊎_elim (λ same. grind (arith, common_steps)) (λ other. let before = below k (omega arith) in grind (arith, common_steps)) (cases_eq k i)
 
 pub long_record : (line : List ℕ) → length line ≡ 32 → hex_bytes line ≡ hex_record line
 long_record line e = sym (cond-true _ _ _ (eq-eqb (length line) 32 e))
 
-pub other_record : (line : List ℕ) → (length line ≡ 32 → ⊥) → None ≡ hex_record line
-other_record line e = sym (cond-false _ (hex_bytes line) None (ne_eqb (length line) 32 e))
+module _ (line : List ℕ) (pairs : List (List ℕ)) (long : length line ≡ 32) (cut : pairs ≡ first_chunks 2 (length line / 2) line) where
+  sixteen : pairs ≡ first_chunks 2 16 line
+  sixteen = let half : length line / 2 ≡ 16 = omega arith in cut ∙ ap (λ (n : ℕ). first_chunks 2 n line) half
 
-joins : (bytes : List ℕ) (i b : ℕ) → i < length bytes → (o : Option (List ℕ)) → option_map (λ more. take (i + 1) (set bytes i b) ++ more) o ≡ option_map (λ more. take i bytes ++ more) (choose o None (λ more. Some (b ∷ more)))
-joins bytes i b within None = refl
-joins bytes i b within (Some more) = ap (λ (x : List ℕ). Some (x ++ more)) (take_more_set bytes i b within) ∙ ap (λ (x : List ℕ). Some x) (append_assoc (take i bytes) (b ∷ []) more)
+  pub no_byte : (i : ℕ) → i < 16 → None ≡ byte_at pairs i → None ≡ hex_record line
+  no_byte i within none = no_bytes line 16 i long within (none ∙ ap (λ (ps : List (List ℕ)). byte_at ps i) sixteen) ∙ long_record line long
 
-module _ (line bytes : List ℕ) (i : ℕ) (so : Spelt line bytes i) where
-  module _ (within : 2 * i + 1 < length line) where
-    pair : drop (2 * i) line ≡ get_or line (2 * i) 0 ∷ get_or line (2 * i + 1) 0 ∷ drop (2 * (i + 1)) line
-    pair =
-        let next : 2 * i + 1 + 1 ≡ 2 * (i + 1) = omega arith in
-        drop_more line (2 * i) 0 (omega arith) ∙ ap (λ (x : List ℕ). get_or line (2 * i) 0 ∷ x) (drop_more line (2 * i + 1) 0 within ∙ ap (λ (k : ℕ). get_or line (2 * i + 1) 0 ∷ drop k line) next)
-
-    step : (o : Option ℕ) → o ≡ hex_byte (get_or line (2 * i) 0) (get_or line (2 * i + 1) 0) → option_map (λ more. take i bytes ++ more) (choose o None (λ b. choose (hex_bytes (drop (2 * (i + 1)) line)) None (λ more. Some (b ∷ more)))) ≡ hex_bytes line
-    step o e = ap (λ (x : Option ℕ). option_map (λ more. take i bytes ++ more) (choose x None (λ b. choose (hex_bytes (drop (2 * (i + 1)) line)) None (λ more. Some (b ∷ more))))) e ∙ sym (ap (λ (x : List ℕ). option_map (λ more. take i bytes ++ more) (hex_bytes x)) pair) ∙ so
-
-    pub no_byte : None ≡ hex_byte (get_or line (2 * i) 0) (get_or line (2 * i + 1) 0) → None ≡ hex_bytes line
-    no_byte e = step None e
-
-    pub one_byte : (b : ℕ) → i < length bytes → Some b ≡ hex_byte (get_or line (2 * i) 0) (get_or line (2 * i + 1) 0) → Spelt line (set bytes i b) (i + 1)
-    one_byte b room e = joins bytes i b room (hex_bytes (drop (2 * (i + 1)) line)) ∙ step (Some b) e
-
-  pub all_bytes : length line ≤ 2 * i → length bytes ≤ i → Some bytes ≡ hex_bytes line
-  all_bytes past full = sym (ap (λ (x : List ℕ). Some x) (append-nil _ ∙ take_all i bytes full)) ∙ sym (ap (λ (x : List ℕ). option_map (λ more. take i bytes ++ more) (hex_bytes x)) (drop_all (2 * i) line past)) ∙ so
+  pub whole_record : (bytes : List ℕ) → length bytes ≡ 16 → ((i : ℕ) → i < 16 → byte_at pairs i ≡ Some (get_or bytes i 0)) → Some bytes ≡ hex_record line
+  whole_record bytes room each =
+      sym (all_bytes line bytes 16 long room (λ i below. ap (λ (ps : List (List ℕ)). byte_at ps i) (sym sixteen) ∙ each i below)) ∙ long_record line long

@@ -1,20 +1,26 @@
 -- The lines after the first are read just where they spell records, and refused just at the first that spells none.
-use Rattle.std.proofs.Common.{◌≡◌, ℕ, ◌+◌, List, [], ◌∷◌, ◌++◌, length, Some, None, Option, sym, refl, ap, ◌∙◌, ⊎_elim, append_assoc, append-nil, arith}
+use Rattle.std.proofs.Common.{◌≡◌, ℕ, ◌+◌, List, [], ◌∷◌, ◌++◌, length, Some, None, Option, sym, refl, ap, ◌∙◌, ⊎_elim, append_assoc, append-nil, arith, sum_by}
 use Rattle.std.specs.List.{flat_map, AllZip}
+use Rattle.std.specs.Option.{option_map_or}
+use Rattle.std.proofs.lemmas.List.Sums.{sum_by-cons}
 use Rattle.bench_text.specs.declared.answers.BenchCounts.{BenchCounts}
 use Rattle.bench_text.specs.declared.answers.Expected.{Expected}
 use Rattle.bench_text.specs.declared.answers.Expected.TheVariants.{Record}
 use Rattle.bench_text.specs.declared.headings.Header.{Header}
-use Rattle.bench_text.specs.Choice.{choose}
 use Rattle.bench_text.specs.Hex.{hex_record}
 use Rattle.bench_text.specs.Reading.{given, refused, counts_of, records_from}
 use Rattle.bench_text.specs.Spelling.{SpellsRecord, Meets}
-use Rattle.bench_text.proofs.ChoiceValues.{cases_option, clash}
+use Rattle.bench_text.proofs.Options.{cases_option}
+use Rattle.bench_text.proofs.LineByLine.{record_length}
 use Rattle.bench_text.proofs.HexRecords.{record_spelt, record_read}
 
 -- one line of the records, as it was read
-at_record : (h : Header) (n : ℕ) (code l : List ℕ) (ls : List (List ℕ)) (o : Option (List ℕ)) → hex_record l ≡ o → records_from h n code (l ∷ ls) ≡ choose o (refused (n + 2) Record code) (λ bytes. records_from h (n + 1) (code ++ bytes) ls)
-at_record h n code l ls o e = ap (λ (x : Option (List ℕ)). choose x (refused (n + 2) Record code) (λ bytes. records_from h (n + 1) (code ++ bytes) ls)) e
+at_record : (h : Header) (n : ℕ) (code l : List ℕ) (ls : List (List ℕ)) (o : Option (List ℕ)) → hex_record l ≡ o → records_from h n code (l ∷ ls) ≡ option_map_or (λ bytes. records_from h (n + 1) (code ++ bytes) ls) o (refused (n + 2) Record code)
+at_record h n code l ls o e = ap (λ (x : Option (List ℕ)). option_map_or (λ bytes. records_from h (n + 1) (code ++ bytes) ls) x (refused (n + 2) Record code)) e
+
+-- after a record
+pub record_step : (h : Header) (n : ℕ) (code l : List ℕ) (ls : List (List ℕ)) (bytes : List ℕ) → hex_record l ≡ Some bytes → (records_from h n code (l ∷ ls) ≡ records_from h (n + 1) (code ++ bytes) ls) × (length bytes ≡ 16) × (sum_by length (l ∷ ls) ≡ 32 + sum_by length ls)
+record_step h n code l ls bytes e = (at_record h n code l ls (Some bytes) e, (record_spelt l bytes e).sixteen, omega (arith, record_length l bytes e, sum_by-cons length l ls))
 
 pub records_spelt : (h : Header) (n : ℕ) (code : List ℕ) (ls : List (List ℕ)) (counts : BenchCounts) (all : List ℕ) → records_from h n code ls ≡ given counts all → (rows : List (List ℕ)) × AllZip SpellsRecord ls rows × (code ++ flat_map (λ row. row) rows ≡ all) × (counts ≡ counts_of h (n + length ls))
 records_spelt h n code [] counts all e =
@@ -24,7 +30,7 @@ records_spelt h n code [] counts all e =
     ([], tt, append-nil code ∙ same, head ∙ ap (counts_of h) count)
 records_spelt h n code (l ∷ ls) counts all e =
     ⊎_elim
-    (λ none. let step = at_record h n code l ls None none in clash (cc))
+    (λ none. let step = at_record h n code l ls None none in absurd (cc))
     (λ some.
     let more = records_spelt h (n + 1) (code ++ some.0) ls counts all (sym (at_record h n code l ls (Some some.0) some.1) ∙ e) in
     let count : n + 1 + length ls ≡ n + length (l ∷ ls) = omega arith in
@@ -55,10 +61,10 @@ pub record NoRecord (n : ℕ) (code : List ℕ) (ls : List (List ℕ)) (m : ℕ)
   pub wanted : want ≡ Record
 
 unread : (l : List ℕ) → hex_record l ≡ None → Meets Record l → ⊥
-unread l none meets = let read = record_read l meets.0 meets.1 in clash (cc)
+unread l none meets = let read = record_read l meets.0 meets.1 in absurd (cc)
 
 pub records_refused : (h : Header) (n : ℕ) (code : List ℕ) (ls : List (List ℕ)) (m : ℕ) (want : Expected) (all : List ℕ) → records_from h n code ls ≡ refused m want all → NoRecord n code ls m want all
-records_refused h n code [] m want all e = clash (cc)
+records_refused h n code [] m want all e = absurd (cc)
 records_refused h n code (l ∷ ls) m want all e =
     ⊎_elim
     (λ none.

@@ -1,6 +1,9 @@
 -- A text is read just where it spells what is read, and refused just at the first line that is not of the form.
-use Rattle.std.proofs.Common.{◌≡◌, ℕ, ◌+◌, ◌/◌, ◌<◌, ◌≤◌, List, [], ◌∷◌, ◌++◌, length, Some, None, Err, Result, sym, refl, ap, ◌∙◌, subst, ⊎_elim, arith}
+use Rattle.std.proofs.Common.{◌≡◌, ◌≢◌, ℕ, ◌+◌, ◌/◌, ◌<◌, ◌≤◌, List, [], ◌∷◌, ◌++◌, length, Some, None, Err, Result, sym, refl, ap, ◌∙◌, subst, ⊎_elim, arith}
 use Rattle.std.specs.List.{AllZip, AllByRecursion}
+use Rattle.std.proofs.lemmas.List.{nil_from_length}
+use Rattle.std.proofs.lemmas.Bool.{cases_lt}
+use Rattle.std.proofs.lemmas.List.Elements.{All-nil}
 use Rattle.bench_text.specs.declared.answers.BenchCounts.{BenchCounts}
 use Rattle.bench_text.specs.declared.answers.Expected.{Expected}
 use Rattle.bench_text.specs.declared.answers.Expected.TheVariants.{Numbers, Record}
@@ -11,9 +14,7 @@ use Rattle.bench_text.specs.Heading.{header_of}
 use Rattle.bench_text.specs.Lines.{lines}
 use Rattle.bench_text.specs.Reading.{Reading, given, refused, counts_of, lines_read, reading, answer_of, code_of, placed, answered, filled}
 use Rattle.bench_text.specs.Spelling.{SpellsRecord, Spells, Meets, Formed, due, Refuses, Free, Ends, ended, Tells, Judges}
-use Rattle.std.proofs.lemmas.List.{nil_from_length}
-use Rattle.std.proofs.lemmas.Bool.{cases_lt}
-use Rattle.bench_text.proofs.ChoiceValues.{cases_option, clash}
+use Rattle.bench_text.proofs.Options.{cases_option}
 use Rattle.bench_text.proofs.LineLayout.{Whole, lines_laid, laid_lines, no_lines, all_free, stands, lines_stand}
 use Rattle.bench_text.proofs.LineByLine.{at_header}
 use Rattle.bench_text.proofs.LineForms.{header_spelt, header_read, numbers_whole, record_whole}
@@ -21,10 +22,10 @@ use Rattle.bench_text.proofs.BufferContents.{at_short, at_long}
 use Rattle.bench_text.proofs.RecordLines.{records_spelt, records_read, records_refused, records_bad}
 
 spelt_lines : (text : List ℕ) (counts : BenchCounts) (code : List ℕ) (ls : List (List ℕ)) → lines text ≡ ls → lines_read ls ≡ given counts code → Spells text counts code
-spelt_lines text counts code [] split e = clash (cc)
+spelt_lines text counts code [] split e = absurd (cc)
 spelt_lines text counts code (l ∷ ls) split e =
     ⊎_elim
-    (λ none. let step = at_header l ls None none in clash (cc))
+    (λ none. let step = at_header l ls None none in absurd (cc))
     (λ some.
     let spelt = records_spelt some.0 0 [] ls counts code (sym (at_header l ls (Some some.0) some.1) ∙ e) in
     subst (λ (x : BenchCounts). Spells text x code) (sym spelt.3) (record {
@@ -58,14 +59,14 @@ read_if_spelt text counts code h =
     ∙ (λ i. given (counts_of head (count i)) (records.whole i))
 
 no_numbers : (l : List ℕ) → header_of l ≡ None → Meets Numbers l → ⊥
-no_numbers l none meets = let read = header_read l meets.0 meets.1 meets.2 in clash (cc)
+no_numbers l none meets = let read = header_read l meets.0 meets.1 meets.2 in absurd (cc)
 
 refused_lines : (text : List ℕ) (n : ℕ) (want : Expected) (code : List ℕ) (ls : List (List ℕ)) → lines text ≡ ls → lines_read ls ≡ refused n want code → Refuses text n want code
 refused_lines text n want code [] split e =
     let count : n ≡ 1 = cc in
     let kind : want ≡ Numbers = cc in
     let none : code ≡ [] = cc in
-    record { front = []; line = []; rest = []; laid = no_lines text split; there = λ some. some; single = tt; ends = tt; counted = count; wanted = kind; good = none; bad = subst (λ (x : Expected). Meets x [] → ⊥) (sym kind) (no_numbers [] refl) }
+    record { front = []; line = []; rest = []; laid = no_lines text split; there = λ some. some; single = All-nil (λ b. b ≢ 10); ends = tt; counted = count; wanted = kind; good = none; bad = subst (λ (x : Expected). Meets x [] → ⊥) (sym kind) (no_numbers [] refl) }
 refused_lines text n want code (l ∷ ls) split e =
     ⊎_elim
     (λ none.

@@ -1,6 +1,4 @@
 -- What the contracts cite: how a text is read, what is printed, and which texts are of the form.
-pub mod Choice
-pub mod Cut
 pub mod Decimal
 pub mod Heading
 pub mod Hex
@@ -8,3 +6,4 @@ pub mod Lines
 pub mod Message
 pub mod Reading
 pub mod Spelling
+pub mod Steps

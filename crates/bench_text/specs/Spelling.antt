@@ -1,6 +1,6 @@
 -- Which texts spell which counts and code, and which line of any other text is the first that is not of the form.
 use Rattle.std.specs.Prelude.{◌≡◌, ℕ, ◌+◌, ◌/◌, ◌%◌, ◌^◌, ◌<◌, ◌≤◌, false, ◌⊎◌, List, [], ◌∷◌, ◌++◌, length, Ok, Err, Result, ◌≢◌}
-use Rattle.std.specs.List.{flat_map, AllZip, AllByRecursion}
+use Rattle.std.specs.List.{flat_map, All, AllZip}
 use Rattle.std.specs.Str.Parse.{IsNumeral, digits_value}
 use Rattle.std.specs.Fmt.{digit_glyph}
 use Rattle.bench_text.specs.declared.answers.BenchCounts.{BenchCounts}
@@ -32,7 +32,7 @@ hex_of (b ∷ bs) = digit_glyph false (b / 16) ∷ digit_glyph false (b % 16) �
 -- the hex digits of 16 bytes
 pub record SpellsRecord (line bytes : List ℕ) : Type 0 where
   pub sixteen : length bytes ≡ 16
-  pub small : AllByRecursion (λ b. b < 256) bytes
+  pub small : All (λ b. b < 256) bytes
   pub digits : line ≡ hex_of bytes
 
 -- the lines, each ended by a newline
@@ -76,7 +76,7 @@ Formed (l ∷ ls) code = Meets Numbers l × SpellsRecords ls code
 
 -- the byte does not stand among these
 abbrev pub Free : ℕ → List ℕ → Type 0
-Free mark bs = AllByRecursion (λ b. b ≢ mark) bs
+Free mark bs = All (λ b. b ≢ mark) bs
 
 -- nothing, or a newline first
 abbrev pub Ends : List ℕ → Type 0

@@ -13,6 +13,7 @@ fn one_more_digit(value: usize, byte: u8) -> Option<usize>
 }
 
 // The number that `digits` spell: one digit or more, and a value below 2^64.
+#[tactic(auto, using(crate::proofs::DecimalNumbers::digit_step))]
 pub(crate) fn number(digits: &[u8]) -> Option<usize>
     ensures { result ≡ decimal_number digits.now }
 {
@@ -20,8 +21,8 @@ pub(crate) fn number(digits: &[u8]) -> Option<usize>
         return None;
     }
     let mut value = 0;
-    for byte in digits {
-        value = one_more_digit(value, *byte)?;
+    for &byte in digits {
+        value = one_more_digit(value, byte)?;
     }
     Some(value)
 }

@@ -2,6 +2,12 @@
 ghost use Rattle.std.specs.Prelude.{◌≡◌};
 ghost use Rattle.bench_text.specs.Hex.{hex_digit, hex_byte, hex_record};
 
+// How many bytes a code record has.
+pub(crate) const RECORD_BYTES: usize = 16;
+
+// How many digits spell a code record.
+const RECORD_DIGITS: usize = 2 * RECORD_BYTES;
+
 // The value of a lower-case hex digit.
 fn nibble(digit: u8) -> Option<u8>
     ensures { result ≡ hex_digit digit }
@@ -23,15 +29,16 @@ fn byte(first: u8, second: u8) -> Option<u8>
 }
 
 // The 16 bytes that the 32 digits of a line spell.
-pub(crate) fn code_record(line: &[u8]) -> Option<[u8; 16]>
+pub(crate) fn code_record(line: &[u8]) -> Option<[u8; RECORD_BYTES]>
     ensures { result ≡ hex_record line.now }
 {
-    if line.len() != 32 {
+    if line.len() != RECORD_DIGITS {
         return None;
     }
-    let mut bytes = [0u8; 16];
-    for i in 0..16 {
-        bytes[i] = byte(line[2 * i], line[2 * i + 1])?;
+    let (pairs, _) = line.as_chunks::<2>();
+    let mut bytes = [0u8; RECORD_BYTES];
+    for (i, [first, second]) in pairs.iter().enumerate() {
+        bytes[i] = byte(*first, *second)?;
     }
     Some(bytes)
 }

@@ -6,6 +6,7 @@ mod cuts;
 mod decimals;
 mod headings;
 mod hexes;
+mod lines;
 mod texts;
 
 pub use answers::{BenchCounts, Expected, TextError};

@@ -7,10 +7,10 @@ ghost use Rattle.check_code.specs.Reports.{Reports};
 
 mod report;
 
-use anyhow::anyhow;
 use bench_text::{BenchCounts, TextError, read_bench};
 use code::{RECORD_BYTES, check};
 use report::Report;
+use std::alloc::Global;
 use std::io::Read;
 use std::process::ExitCode;
 
@@ -28,31 +28,24 @@ fn judge(counts: BenchCounts, buffer: &[u8]) -> Report
     requires { 16 * counts.records ≤ length buffer.now }
     ensures { Reports (given counts (take (16 * counts.records) buffer.now)) result }
 {
-    let (code, _) = buffer.split_at(RECORD_BYTES * counts.records);
+    let code = &buffer[..RECORD_BYTES * counts.records];
     Report {
-        records: code.len() / RECORD_BYTES,
-        places: counts.places,
-        results: counts.results,
+        counts,
         verdict: check(code, counts.places, counts.results),
     }
 }
 
-fn run(rt: &HostRuntime) -> anyhow::Result<()> {
-    let heap = rt.alloc();
+fn run(rt: &(impl Input + Print), heap: Global) -> anyhow::Result<()> {
     let mut text = Vec::new(heap);
-    rt.stdin().read_to_end(&mut text)?;
+    rt.reader().read_to_end(&mut text)?;
     let mut buffer = vec![in heap; 0u8; text.len() / 2]?;
-    match examine(text.as_slice(), buffer.as_mut_slice()) {
-        Ok(report) => {
-            println!(rt; "{report}")?;
-            Ok(())
-        }
-        Err(error) => Err(anyhow!(format!(in heap; "{error}")?)),
-    }
+    let report = examine(text.as_slice(), buffer.as_mut_slice())?;
+    println!(rt; "{report}")?;
+    Ok(())
 }
 
 fn main(rt: HostRuntime) -> anyhow::Result<ExitCode> {
-    let Err(error) = run(&rt) else {
+    let Err(error) = run(&rt, rt.alloc()) else {
         return Ok(ExitCode::SUCCESS);
     };
     eprintln!(rt; "{error}")?;

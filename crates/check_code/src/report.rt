@@ -2,22 +2,19 @@
 ghost use Rattle.check_code.specs.Reports.{count_text, report_text};
 ghost use Rattle.std.specs.Prelude.{Some};
 
+use bench_text::BenchCounts;
 use records::Refusal;
 use std::fmt;
 
 // A number and what is counted.
 #[derive(Clone, Copy)]
-struct Count<'a> {
-    number: usize,
-    noun: &'a str,
-}
+struct Count<'a>(usize, &'a str);
 
 impl fmt::Display for Count<'_> {
-    ghost output = { λ c. Some (count_text c.number c.noun.now) };
+    ghost output = { λ c. Some (count_text c.0 c.1.now) };
 
     fn fmt<W: fmt::Write>(&self, f: &mut fmt::Formatter<W>) -> fmt::Result {
-        let number = self.number;
-        let noun = self.noun;
+        let Count(number, noun) = *self;
         if number == 1 {
             write!(f, "{number} {noun}")
         } else {
@@ -28,9 +25,7 @@ impl fmt::Display for Count<'_> {
 
 #[derive(Clone, Copy)]
 pub struct Report {
-    pub records: usize,
-    pub places: usize,
-    pub results: usize,
+    pub counts: BenchCounts,
     pub verdict: Result<(), Refusal>,
 }
 
@@ -40,18 +35,9 @@ impl fmt::Display for Report {
     fn fmt<W: fmt::Write>(&self, f: &mut fmt::Formatter<W>) -> fmt::Result {
         match self.verdict {
             Ok(()) => {
-                let records = Count {
-                    number: self.records,
-                    noun: "record",
-                };
-                let places = Count {
-                    number: self.places,
-                    noun: "place",
-                };
-                let results = Count {
-                    number: self.results,
-                    noun: "result",
-                };
+                let records = Count(self.counts.records, "record");
+                let places = Count(self.counts.places, "place");
+                let results = Count(self.counts.results, "result");
                 write!(f, "passes: {records}, {places}, {results}")
             }
             Err(refusal) => write!(f, "{refusal}"),

@@ -1,21 +1,16 @@
--- What `code_record` answers at a line of another length, at two bytes that are no digits, after two digits, and at the end.
-use Rattle.std.proofs.Common.{refl, ◌∙◌, arith, length-set}
-use Rattle.bench_text.specs.Hex.{hex_bytes}
-use Rattle.bench_text.proofs.RecordBytes.{spelt_none, long_record, other_record, no_byte, one_byte, all_bytes}
+-- What `code_record` answers at a pair that is no byte, after a pair, and at the end.
+use Rattle.std.proofs.Common.{◌∙◌, sym, arith, length-set}
+use Rattle.bench_text.proofs.RecordBytes.{byte_at, one_more, no_byte, whole_record}
 use Rattle.bench_text.proofs.hexes.code_record.Goals as goal
 
-pub returns-then-line-ne32 : goal.returns-then-line-ne32
-returns-then-line-ne32 c = other_record c.args.line.now c.if-line-ne32.true
-
-pub loop-i-init : goal.loop-i-init
-loop-i-init c = (refl, spelt_none (hex_bytes c.args.line.now))
-
 pub returns-in_err-bytes : goal.returns-in_err-bytes
-returns-in_err-bytes c =
-    c.from_residual.ensures ∙ no_byte c.args.line.now c.loop-i.bytes c.loop-i.i c.loop-i.invariant.1 (omega arith) c.in_err-bytes.ensures ∙ long_record _ c.if-line-ne32.false
+returns-in_err-bytes c = c.from_residual.ensures ∙ no_byte c.args.line.now c.as_chunks.result.0.now c.if-line-ne-RECORD_DIGITS.false c.as_chunks.ensures.front c.loop-i.i (omega arith) c.in_err-bytes.ensures
 
 pub loop-i-preserved : goal.loop-i-preserved
-loop-i-preserved c = (length-set _ _ _ ∙ c.loop-i.invariant.0, one_byte c.args.line.now c.loop-i.bytes c.loop-i.i c.loop-i.invariant.1 (omega arith) _ (omega arith) c.in_ok-bytes.ensures)
+loop-i-preserved c = record {
+  sixteen = length-set _ _ _ ∙ c.loop-i.invariant.sixteen;
+  spelt = one_more (byte_at c.as_chunks.result.0.now) c.loop-i.bytes c.loop-i.i _ (omega arith) c.loop-i.invariant.spelt (sym c.in_ok-bytes.ensures);
+}
 
 pub returns : goal.returns
-returns c = all_bytes c.args.line.now c.loop-i.bytes c.loop-i.i c.loop-i.invariant.1 (omega arith) (omega arith) ∙ long_record _ c.if-line-ne32.false
+returns c = whole_record c.args.line.now c.as_chunks.result.0.now c.if-line-ne-RECORD_DIGITS.false c.as_chunks.ensures.front c.loop-i.bytes c.loop-i.invariant.sixteen (λ i below. c.loop-i.invariant.spelt i (omega arith))
