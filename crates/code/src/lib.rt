@@ -2,7 +2,6 @@
 #![tactic(auto)]
 
 mod checker;
-mod layout;
 mod marks;
 mod places;
 mod record;

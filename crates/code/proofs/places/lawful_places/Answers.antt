@@ -1,7 +1,7 @@
 use Rattle.std.proofs.Common.{◌≡◌, true, ◌∙◌, ap, arith, sym, take}
 use Rattle.code.proofs.Fields.{lawful_by_parts}
 use Rattle.code.specs.Lawful.{all_zero, ascending}
-use Rattle.code.proofs.layout.lawful_places.Goals as goal
+use Rattle.code.proofs.places.lawful_places.Goals as goal
 
 pub returns-then-ascends : goal.returns-then-ascends
 returns-then-ascends c =
