@@ -9,81 +9,69 @@ const ROW: &[u8; 16] = b"\x00\x01\x02\x03\x04\x05\x06\x07\x89\x9a\xab\xbc\xcd\xd
 // What a buffer holds before a text is read.
 const FILL: u8 = 0x55;
 
-#[derive(Clone, Copy)]
-struct Good {
-    text: &'static [u8],
-    counts: BenchCounts,
-}
-
-#[derive(Clone, Copy)]
-struct Bad {
-    text: &'static [u8],
-    number: usize,
-}
-
-fn good_text(text: &'static [u8], places: usize, results: usize, records: usize) -> Good {
-    let counts = BenchCounts {
-        places,
-        results,
-        records,
-    };
-    Good { text, counts }
-}
-
-fn bad_text(text: &'static [u8], number: usize) -> Bad {
-    Bad { text, number }
-}
-
 // The buffer begins with that many copies of the row, and the rest of it is as it was.
 fn holds_rows(rt: &impl Abort, buffer: &[u8], rows: usize) -> Result<(), Fail> {
-    for (i, byte) in buffer.iter().enumerate() {
-        let wanted = if i / 16 < rows { ROW[i % 16] } else { FILL };
-        assert_eq!(rt; *byte, wanted);
+    for (row, bytes) in buffer.chunks(16).enumerate() {
+        if row < rows {
+            assert!(rt; bytes == ROW.as_slice());
+        } else {
+            assert!(rt; bytes.iter().all(|&byte| byte == FILL));
+        }
     }
     Ok(())
 }
 
 // The text is read with the shortest buffer that is long enough.
-fn is_read(rt: &impl Abort, heap: Global, good: Good) -> Result<(), Fail> {
-    let mut buffer = vec![in heap; FILL; good.text.len() / 2]?;
-    let counts = read_bench(good.text, buffer.as_mut_slice())?;
-    assert_eq!(rt; counts, good.counts);
+fn is_read(rt: &impl Abort, heap: Global, text: &[u8], wanted: BenchCounts) -> Result<(), Fail> {
+    let mut buffer = vec![in heap; FILL; text.len() / 2]?;
+    let counts = read_bench(text, buffer.as_mut_slice())?;
+    assert_eq!(rt; counts, wanted);
     holds_rows(rt, buffer.as_slice(), counts.records)
 }
 
 // The line is refused, and the buffer holds the rows of the lines before it.
-fn is_refused(rt: &impl Abort, heap: Global, bad: Bad, expected: Expected) -> Result<(), Fail> {
-    let number = bad.number;
-    let mut buffer = vec![in heap; FILL; bad.text.len() / 2]?;
-    let answer = read_bench(bad.text, buffer.as_mut_slice());
+fn is_refused(
+    rt: &impl Abort,
+    heap: Global,
+    text: &[u8],
+    number: usize,
+    expected: Expected,
+) -> Result<(), Fail> {
+    let mut buffer = vec![in heap; FILL; text.len() / 2]?;
+    let answer = read_bench(text, buffer.as_mut_slice());
     assert_eq!(rt; answer, Err(TextError::Line { number, expected }));
     holds_rows(rt, buffer.as_slice(), number.saturating_sub(2))
 }
 
 #[test]
 fn good_texts_are_read(rt: HostRuntime) -> Result<(), Fail> {
-    let goods = [
-        good_text(b"3 4\n", 3, 4, 0),
-        good_text(b"0 0", 0, 0, 0),
-        good_text(b"007 000\n", 7, 0, 0),
-        good_text(b"18446744073709551615 1", 18446744073709551615, 1, 0),
-        good_text(b"1 2\n0001020304050607899aabbccddeefff\n", 1, 2, 1),
-        good_text(b"1 2\n0001020304050607899aabbccddeefff", 1, 2, 1),
-        good_text(
+    let goods: [(&[u8], usize, usize, usize); 8] = [
+        (b"3 4\n", 3, 4, 0),
+        (b"0 0", 0, 0, 0),
+        (b"007 000\n", 7, 0, 0),
+        (b"18446744073709551615 1", 18446744073709551615, 1, 0),
+        (b"1 2\n0001020304050607899aabbccddeefff\n", 1, 2, 1),
+        (b"1 2\n0001020304050607899aabbccddeefff", 1, 2, 1),
+        (
             b"1 2\n0001020304050607899aabbccddeefff\n0001020304050607899aabbccddeefff\n",
             1,
             2,
             2,
         ),
-        good_text(
+        (
             b"1 2\n0001020304050607899aabbccddeefff\n0001020304050607899aabbccddeefff",
             1,
             2,
             2,
         ),
     ];
-    for good in goods {
-        is_read(&rt, rt.alloc(), good)?;
+    for (text, places, results, records) in goods {
+        let counts = BenchCounts {
+            places,
+            results,
+            records,
+        };
+        is_read(&rt, rt.alloc(), text, counts)?;
     }
     Ok(())
 }
@@ -107,30 +95,30 @@ fn bad_first_lines_are_refused(rt: HostRuntime) -> Result<(), Fail> {
         b"0001020304050607899aabbccddeefff\n",
     ];
     for text in texts {
-        is_refused(&rt, rt.alloc(), bad_text(text, 1), Expected::Numbers)?;
+        is_refused(&rt, rt.alloc(), text, 1, Expected::Numbers)?;
     }
     Ok(())
 }
 
 #[test]
 fn bad_records_are_refused(rt: HostRuntime) -> Result<(), Fail> {
-    let bads = [
-        bad_text(b"3 4\n\n", 2),
-        bad_text(b"3 4\n\n0001020304050607899aabbccddeefff\n", 2),
-        bad_text(b"3 4\n0001020304050607899aabbccddeefff\n\n", 3),
-        bad_text(b"3 4\n0001020304050607899aabbccddeeff\n", 2),
-        bad_text(b"3 4\n0001020304050607899aabbccddeefff0\n", 2),
-        bad_text(b"3 4\n0001020304050607899aabbccddeeffF\n", 2),
-        bad_text(
+    let bads: [(&[u8], usize); 10] = [
+        (b"3 4\n\n", 2),
+        (b"3 4\n\n0001020304050607899aabbccddeefff\n", 2),
+        (b"3 4\n0001020304050607899aabbccddeefff\n\n", 3),
+        (b"3 4\n0001020304050607899aabbccddeeff\n", 2),
+        (b"3 4\n0001020304050607899aabbccddeefff0\n", 2),
+        (b"3 4\n0001020304050607899aabbccddeeffF\n", 2),
+        (
             b"3 4\n0001020304050607899aabbccddeefff\n0001020304050607899aabbccddeeffg",
             3,
         ),
-        bad_text(b"3 4\n0001020304050607899aabbccddeefff\r\n", 2),
-        bad_text(b"3 4\n0001020304050607899aabbccddeefff \n", 2),
-        bad_text(b"3 4\n0001020304050607899aabbccddee\xc3\xa9\n", 2),
+        (b"3 4\n0001020304050607899aabbccddeefff\r\n", 2),
+        (b"3 4\n0001020304050607899aabbccddeefff \n", 2),
+        (b"3 4\n0001020304050607899aabbccddee\xc3\xa9\n", 2),
     ];
-    for bad in bads {
-        is_refused(&rt, rt.alloc(), bad, Expected::Record)?;
+    for (text, number) in bads {
+        is_refused(&rt, rt.alloc(), text, number, Expected::Record)?;
     }
     Ok(())
 }

@@ -235,15 +235,11 @@ fn draw(seed: u64, n: u64) -> u64 {
 }
 
 // Every answer is a yes or one of the checker's refusals.
-fn is_some_answer(rt: &impl Abort, code: &[u8], places: usize, results: usize) -> Result<(), Fail> {
-    match check_code(code, places, results) {
-        Ok(()) => Ok(()),
-        Err(refusal) => {
-            let number = refusal.reason.number();
-            assert!(rt; number == 16 || 20 <= number && number <= 25);
-            assert!(rt; refusal.place <= code.len());
-            Ok(())
-        }
+fn is_some_answer(rt: &impl Abort, code: &[u8], places: usize, results: usize) {
+    if let Err(refusal) = check_code(code, places, results) {
+        let number = refusal.reason.number();
+        assert!(rt; number == 16 || 20 <= number && number <= 25);
+        assert!(rt; refusal.place <= code.len());
     }
 }
 
@@ -259,7 +255,7 @@ fn random_bytes_are_answered(rt: HostRuntime) -> Result<(), Fail> {
             code.as_slice(),
             (draw(seed, 20) & 0xff) as usize,
             (draw(seed, 18) & 0xff) as usize,
-        )?;
+        );
     }
     Ok(())
 }
@@ -280,7 +276,7 @@ fn random_records_are_answered(rt: HostRuntime) -> Result<(), Fail> {
             code.extend_from_slice(&[
                 operation, count, 0, 0, 0, 0, 0, 0, used, 0, 0, 0, 0, 0, 0, 0,
             ])?;
-            is_some_answer(&rt, code.as_slice(), 4, 1)?;
+            is_some_answer(&rt, code.as_slice(), 4, 1);
         }
     }
     Ok(())
