@@ -7,7 +7,7 @@ ghost use Rattle.records.specs.Refusals.{answer};
 use code::check;
 use records::Refusal;
 
-// The checker's answer to one literal record that puts on place 1, with one result; and worked verdicts.
+/// The checker's answer to one literal record that puts on place 1, with one result; and worked verdicts.
 pub fn literal_to_place_1(places: usize) -> Result<(), Refusal>
     ensures is_the_verdict { answer result ≡ verdict literal_to_place_1 places 1 }
     ensures worked_verdicts { WorkedVerdicts }

@@ -13,18 +13,25 @@ pub const MOST_RECORDS: usize = 1024;
 /// The most results that a code leaves.
 pub const MOST_RESULTS: usize = 16;
 
+// How many whole records the code has.
+fn record_count(code: &[u8]) -> usize
+    ensures { result ≡ record_count code.now }
+{
+    code.len() / RECORD_BYTES
+}
+
 // The first record that is not laid out well or not of the kind of record 0.
 fn first_unlawful(code: &[u8]) -> Option<usize>
     ensures { result ≡ first_unlawful code.now (record_count code.now) }
 {
-    (0..code.len() / RECORD_BYTES).find(|&index| lawful_record(code, index).is_none())
+    (0..record_count(code)).find(|&index| lawful_record(code, index).is_none())
 }
 
 // Length, result count, and each record's layout and kind.
 fn well_formed(code: &[u8], results: usize) -> Result<(), Refusal>
     ensures { answer result ≡ well_formed code.now results }
 {
-    if code.len() % RECORD_BYTES != 0 || code.len() / RECORD_BYTES > MOST_RECORDS {
+    if code.len() % RECORD_BYTES != 0 || record_count(code) > MOST_RECORDS {
         return Err(Reason::CodeLength.at(0));
     }
     if results > MOST_RESULTS {
@@ -50,7 +57,7 @@ pub fn check(code: &[u8], places: usize, results: usize) -> Result<(), Refusal>
     ensures is_the_verdict { answer result ≡ verdict code.now places results }
 {
     well_formed(code, results)?;
-    let records = code.len() / RECORD_BYTES;
+    let records = record_count(code);
     let mut marks = Marks::empty(places);
     for index in 0..records {
         step_at(code, index, &mut marks)?;

@@ -9,14 +9,14 @@ pub struct Fault {
 }
 
 impl Fault {
-    // The faults that an arithmetic of this product answers.
+    /// The faults that an arithmetic of this product answers.
     pub const OUT_OF_RANGE: Fault = Fault { number: 1 };
 
     pub const DIVISOR_ZERO: Fault = Fault { number: 2 };
 
     pub const DIFFERENT_DIMENSIONS: Fault = Fault { number: 3 };
 
-    // The fault of this number; 0 is none.
+    /// The fault of this number; 0 is none.
     pub fn new(number: u8) -> Option<Fault>
         ensures by_number { MatchOption result (number ≡ 0) (λ f. f.number ≡ number) }
     {

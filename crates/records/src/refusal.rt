@@ -13,7 +13,7 @@ pub struct Refusal {
 }
 
 impl Reason {
-    // The refusal for this reason at a place.
+    /// The refusal for this reason at a place.
     pub fn at(self, place: usize) -> Refusal
         ensures { result ≡ record { reason = self; place = place } }
     {
