@@ -7,7 +7,7 @@ use Rattle.ring.specs.Held.{held}
 use Rattle.ring.specs.Views.{next_front, slot_of}
 use Rattle.ring.specs.declared.ring.Ring.{Ring}
 use Rattle.records.specs.Refusals.{granted}
-use Rattle.code.proofs.Counts.{count_pass, count_put}
+use Rattle.code.proofs.Counts.{count_put, from_bool-is, full_count-pass}
 use Rattle.code.specs.Marks.{InStep, full_count, pass}
 use Rattle.code.specs.Verdict.{puts}
 
@@ -38,8 +38,8 @@ module _ (r : Ring) (slots : List Bool) (enough : r.size ≤ length slots) (full
     -- the full places are place 0, where it is full, and those that a pass leaves
     pub first_counted : from_bool (get_or slots j false) + full_count (pass (held r slots)) ≡ full
     first_counted =
-        let same = ap from_bool (held_at r slots enough 0 j found false) in
-        omega (arith, count_pass (held r slots), so.counted, same)
+        let same = ap from_bool (sym (held_at r slots enough 0 j found false)) ∙ from_bool-is (get_or (held r slots) 0 false) in
+        omega (arith, full_count-pass (held r slots), so.counted, same)
 
     -- s is the ring once it has turned
     module _ (s : Ring) (size : s.size ≡ r.size) (front : s.front ≡ next_front r.front r.size) where
