@@ -1,36 +1,33 @@
 -- The arithmetic of dimensions. Assumes nothing.
-use Rattle.std.proofs.Common.{le-leb, ltb-false, sym, ap, ◌∙◌, of_z, to_z}
-use Rattle.std.specs.Prelude.{◌≡◌, ℕ, ◌+◌, ◌*◌, ◌/◌, ◌%◌, Bool, true, false, cond, ◌&&◌, ℤ, pos, negsuc, ◌+ℤ◌, ◌-ℤ◌, Some, None, Ok, Err, Option, Result, int_le, int_lt, refl}
+use Rattle.std.proofs.Common.{arith}
+use Rattle.std.proofs.lemmas.Int.{ints}
+use Rattle.std.proofs.lemmas.Bool.Decides.{nat_tests}
+use Rattle.std.specs.Prelude.{◌≡◌, ℕ, ◌+◌, ◌*◌, ◌/◌, ◌%◌, Bool, true, if◌then◌else◌, ◌&&◌, ℤ, pos, ◌+ℤ◌, ◌-ℤ◌, Some, None, Ok, Err, Option, Result, int_lt, refl}
+use Rattle.std.specs.Option.{ok_or}
 use Rattle.std.specs.Ordering.{int_eq}
-use Rattle.std.specs.Int.{w8}
+use Rattle.std.specs.Int.{w8, cast_signed, cast_unsigned}
 use Rattle.arithmetic.specs.Meaning.{Meaning}
-use Rattle.arithmetic.specs.Ranges.{highest, is_exponent, lowest, provided}
+use Rattle.arithmetic.specs.Ranges.{highest, is_exponent, lowest}
 use Rattle.arithmetic.specs.declared.dimension.Dimension.{Dimension}
 use Rattle.arithmetic.specs.declared.exponent.Exponent.{Exponent}
 use Rattle.records.specs.Faults.{different_dimensions, out_of_range}
+use Rattle.records.specs.Provided.{provided}
 use Rattle.records.specs.declared.fault.Fault.{Fault}
 
 -- the exponent of this value, if there is one
 abbrev pub exponent_of : ℤ → Option Exponent
 exponent_of z = provided (is_exponent z) (λ e. record { power = z; within = e })
 
+-- the same, and the fault where it is out of range
+abbrev pub exact_exponent : ℤ → Result Exponent Fault
+exact_exponent z = ok_or (exponent_of z) out_of_range
+
 -- below the range the lowest, above it the highest
 abbrev pub nearest_power : ℤ → ℤ
-nearest_power z = cond (int_lt z lowest) lowest (cond (int_lt highest z) highest z)
-
-not_below : (a b : ℤ) → int_lt a b ≡ false → int_le b a ≡ true
-not_below (pos a) (pos b) e = le-leb b a (ltb-false a b e)
-not_below (pos a) (negsuc b) e = refl
-not_below (negsuc a) (pos b) e = sym e
-not_below (negsuc a) (negsuc b) e = le-leb a b (ltb-false b a e)
-
-nearest_tested : (z : ℤ) (below above : Bool) → int_lt z lowest ≡ below → int_lt highest z ≡ above → is_exponent (cond below lowest (cond above highest z)) ≡ true
-nearest_tested z true above l h = refl
-nearest_tested z false true l h = refl
-nearest_tested z false false l h = ap (λ b. b && int_le z highest) (not_below z lowest l) ∙ not_below highest z h
+nearest_power z = if int_lt z lowest then lowest else (if int_lt highest z then highest else z)
 
 pub nearest_within : (z : ℤ) → is_exponent (nearest_power z) ≡ true
-nearest_within z = nearest_tested z (int_lt z lowest) (int_lt highest z) refl refl
+nearest_within z = grind (arith, ints, nat_tests)
 
 abbrev pub nearest : ℤ → Exponent
 nearest z = record { power = nearest_power z; within = nearest_within z }
@@ -46,19 +43,19 @@ same_dimension l r = int_eq l.seconds.power r.seconds.power && int_eq l.volts.po
 
 -- the dimension of both operands, where they have the same
 abbrev pub common_dimension : Dimension → Dimension → Result Dimension Fault
-common_dimension l r = cond (same_dimension l r) (Ok l) (Err different_dimensions)
+common_dimension l r = if same_dimension l r then Ok l else Err different_dimensions
 
 abbrev pub zero_exponent : Exponent
 zero_exponent = record { power = pos 0; within = refl }
 
 -- byte 0 is the exponent of seconds, byte 1 that of volts
 abbrev pub dimension_word : Dimension → ℕ
-dimension_word d = of_z w8 d.seconds.power + 256 * of_z w8 d.volts.power
+dimension_word d = cast_unsigned w8 d.seconds.power + 256 * cast_unsigned w8 d.volts.power
 
 -- the other bytes are not read
 abbrev pub word_dimension : ℕ → Dimension
 word_dimension word =
-    record { seconds = nearest (to_z w8 (word % 256)); volts = nearest (to_z w8 (word / 256 % 256)) }
+    record { seconds = nearest (cast_signed w8 (word % 256)); volts = nearest (cast_signed w8 (word / 256 % 256)) }
 
 abbrev pub dimension_meaning : Meaning Dimension
 dimension_meaning =

@@ -4,4 +4,3 @@ pub mod WholeMeaning
 pub mod DimensionMeaning
 pub mod Exponents
 pub mod Wholes
-pub mod InRange

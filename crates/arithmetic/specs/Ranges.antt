@@ -1,5 +1,5 @@
--- The ranges of the values, and a value that is there if it is in its range. Assumes nothing.
-use Rattle.std.specs.Prelude.{◌≡◌, Bool, true, false, ◌&&◌, ℤ, pos, negsuc, Some, None, Option, int_le, refl}
+-- The ranges of the values. Assumes nothing.
+use Rattle.std.specs.Prelude.{Bool, ◌&&◌, ℤ, pos, negsuc, int_le}
 
 -- from the lowest to the highest, both included
 abbrev pub between : ℤ → ℤ → ℤ → Bool
@@ -18,8 +18,3 @@ highest = pos 63
 
 abbrev pub is_exponent : ℤ → Bool
 is_exponent z = between lowest highest z
-
--- what f makes of a test that passed
-abbrev pub provided : {X : Type 0} (b : Bool) → (b ≡ true → X) → Option X
-provided true f = Some (f refl)
-provided false f = None

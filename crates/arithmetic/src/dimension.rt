@@ -1,7 +1,7 @@
-// A dimension: an exponent of seconds and an exponent of volts.
+// A dimension: an exponent of seconds and an exponent of volts. The default is that of a plain number.
 use crate::exponent::Exponent;
 
-#[derive(Clone, Copy, Debug, PartialEq, Eq)]
+#[derive(Clone, Copy, Debug, Default, PartialEq, Eq)]
 pub struct Dimension {
     pub seconds: Exponent,
     pub volts: Exponent,

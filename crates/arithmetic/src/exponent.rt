@@ -1,6 +1,8 @@
 // The exponent of one unit in a dimension: -64 to 63.
-ghost use Rattle.std.specs.Prelude.{◌≡◌, true};
+ghost use Rattle.std.specs.Prelude.{◌≡◌, ◌+ℤ◌, ◌-ℤ◌, true};
 ghost use Rattle.arithmetic.specs.Ranges.{is_exponent};
+
+use records::Fault;
 
 #[derive(Clone, Copy, Debug, PartialEq, Eq)]
 pub struct Exponent {
@@ -8,8 +10,61 @@ pub struct Exponent {
     ghost within: { is_exponent power ≡ true },
 }
 
+impl Default for Exponent {
+    ghost use Rattle.arithmetic.specs.DimensionMeaning.{zero_exponent};
+
+    ghost is_default = { λ exponent. exponent ≡ zero_exponent };
+
+    fn default() -> Exponent {
+        Exponent { power: 0 }
+    }
+}
+
+impl From<Exponent> for i8 {
+    ghost from_gives = { λ exponent power. power ≡ exponent.power };
+
+    fn from(exponent: Exponent) -> i8 {
+        exponent.power
+    }
+}
+
 impl Exponent {
+    ghost use Rattle.arithmetic.specs.DimensionMeaning.{exact_exponent, exponent_of, nearest};
+
     pub const LOWEST: i8 = -64;
 
     pub const HIGHEST: i8 = 63;
+
+    /// The exponent of this power, if it is in range.
+    pub fn new(power: i8) -> Option<Exponent>
+        ensures { result ≡ exponent_of power }
+    {
+        if power < Exponent::LOWEST || Exponent::HIGHEST < power {
+            return None;
+        }
+        Some(Exponent { power })
+    }
+
+    /// The exponent of this power; out of range, the end of the range that is nearest.
+    pub fn nearest(power: i8) -> Exponent
+        ensures { result ≡ nearest power }
+    {
+        Exponent {
+            power: power.clamp(Exponent::LOWEST, Exponent::HIGHEST),
+        }
+    }
+
+    // The sum, or the fault where it is out of range.
+    pub(crate) fn plus(self, other: Exponent) -> Result<Exponent, Fault>
+        ensures { result ≡ exact_exponent (self.power +ℤ other.power) }
+    {
+        Exponent::new(self.power + other.power).ok_or(Fault::OUT_OF_RANGE)
+    }
+
+    // The difference, likewise.
+    pub(crate) fn minus(self, other: Exponent) -> Result<Exponent, Fault>
+        ensures { result ≡ exact_exponent (self.power -ℤ other.power) }
+    {
+        Exponent::new(self.power - other.power).ok_or(Fault::OUT_OF_RANGE)
+    }
 }

@@ -5,7 +5,6 @@ mod arithmetic_trait;
 mod dimension;
 mod dimensions;
 mod exponent;
-mod faults;
 mod whole;
 mod whole_numbers;
 

@@ -7,3 +7,19 @@ pub struct Whole {
     pub(crate) number: i32,
     ghost within: { is_whole number ≡ true },
 }
+
+impl From<i32> for Whole {
+    ghost from_gives = { λ number whole. whole.number ≡ number };
+
+    fn from(number: i32) -> Whole {
+        Whole { number }
+    }
+}
+
+impl From<Whole> for i32 {
+    ghost from_gives = { λ whole number. number ≡ whole.number };
+
+    fn from(whole: Whole) -> i32 {
+        whole.number
+    }
+}

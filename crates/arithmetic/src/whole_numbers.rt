@@ -1,5 +1,5 @@
 // The arithmetic of whole numbers: exact results, or a fault where there is none in range.
-ghost use Rattle.std.specs.Prelude.{◌≡◌, ◌%◌, ◌^◌, ◌<◌, ℤ, ◌*ℤ◌, FitsSigned, int_div, unsigned_abs};
+ghost use Rattle.std.specs.Prelude.{◌≡◌, ℤ, FitsSigned};
 ghost use Rattle.std.specs.Int.{w32};
 ghost use Rattle.arithmetic.specs.WholeMeaning.{exact, whole_meaning};
 ghost use Rattle.std.specs.Option.{SomeIff};
@@ -7,54 +7,18 @@ ghost use Rattle.arithmetic.specs.Wholes.{reads_back};
 ghost use Rattle.std.proofs.Common.{rules};
 
 use crate::arithmetic_trait::Arithmetic;
-use crate::faults::{divisor_zero, out_of_range};
 use crate::whole::Whole;
 use records::Fault;
+use std::num::NonZeroI32;
 
 #[derive(Clone, Copy, Debug)]
 pub struct WholeNumbers;
-
-impl Whole {
-    pub fn new(number: i32) -> Whole
-        ensures { result.number ≡ number }
-    {
-        Whole { number }
-    }
-
-    pub fn number(&self) -> i32
-        ensures { result ≡ self.now.number }
-    {
-        self.number
-    }
-}
-
-fn low_bits(word: u64) -> u32
-    ensures { result ≡ word % 2 ^ 32 }
-{
-    (word % 0x1_0000_0000) as u32
-}
 
 // The answer for an exact result, from what a checked operation found of it.
 fn in_range(found: Option<i32>) -> Result<Whole, Fault>
     ensures { (z : ℤ) → SomeIff found (FitsSigned w32 z) z → result ≡ exact z }
 {
-    match found {
-        Some(number) => Ok(Whole { number }),
-        None => Err(out_of_range()),
-    }
-}
-
-fn product(left: Whole, right: Whole) -> Option<i32>
-    ensures { SomeIff result (FitsSigned w32 (left.number *ℤ right.number)) (left.number *ℤ right.number) }
-{
-    left.number.checked_mul(right.number)
-}
-
-// The quotient without its fraction.
-fn quotient(left: Whole, right: Whole) -> Option<i32>
-    ensures { SomeIff result ((0 < unsigned_abs right.number) × FitsSigned w32 (int_div left.number right.number)) (int_div left.number right.number) }
-{
-    left.number.checked_div(right.number)
+    found.map(Whole::from).ok_or(Fault::OUT_OF_RANGE)
 }
 
 impl Arithmetic for WholeNumbers {
@@ -67,15 +31,16 @@ impl Arithmetic for WholeNumbers {
     ghost fits_a_word = { Prim.search rules };
 
     fn pack(&self, value: Whole) -> u64 {
-        value.number.cast_unsigned() as u64
+        u64::from(value.number.cast_unsigned())
     }
 
     fn unpack(&self, word: u64) -> Whole {
-        Whole::new(low_bits(word).cast_signed())
+        let low_bits = (word % 0x1_0000_0000) as u32;
+        Whole::from(low_bits.cast_signed())
     }
 
     fn literal(&self, argument: i32) -> Result<Whole, Fault> {
-        in_range(Some(argument))
+        Ok(Whole::from(argument))
     }
 
     fn negate(&self, value: Whole) -> Result<Whole, Fault> {
@@ -91,13 +56,12 @@ impl Arithmetic for WholeNumbers {
     }
 
     fn multiply(&self, left: Whole, right: Whole) -> Result<Whole, Fault> {
-        in_range(product(left, right))
+        in_range(left.number.checked_mul(right.number))
     }
 
+    #[tactic(auto, using(crate::proofs::Faults::division))]
     fn divide(&self, left: Whole, right: Whole) -> Result<Whole, Fault> {
-        if right.number == 0 {
-            return Err(divisor_zero());
-        }
-        in_range(quotient(left, right))
+        let divisor = NonZeroI32::new(right.number).ok_or(Fault::DIVISOR_ZERO)?;
+        in_range(left.number.checked_div(divisor.get()))
     }
 }

@@ -1,12 +1,8 @@
-use Rattle.std.proofs.Common.{ℤ, Err, Option, ap, ◌∙◌, subst, w32, SFits}
-use Rattle.arithmetic.specs.Wholes.{exact_missing, exact_there, found_is}
-use Rattle.std.specs.Option.{SomeIff}
+use Rattle.std.proofs.Common.{refl, ◌∙◌, rules}
+use Rattle.arithmetic.proofs.Exact.{exact_found}
+use Rattle.arithmetic.proofs.Faults.{or_out_of_range}
 use Rattle.arithmetic.proofs.whole_numbers.in_range.Goals as goal
 
-pub returns-in-Some : goal.returns-in-Some
-returns-in-Some c z found =
-    exact_there _ z (found_is _ z (subst (λ (o : Option ℤ). SomeIff o (SFits w32 z) z) c.in-Some.is found))
-
-pub returns-in-None : goal.returns-in-None
-returns-in-None c z found =
-    ap Err c.out_of_range.ensures ∙ exact_missing z (subst (λ (o : Option ℤ). SomeIff o (SFits w32 z) z) c.in-None.is found)
+pub returns : goal.returns
+returns c z found =
+    c.ok_or.ensures.value ∙ (or_out_of_range _ _ refl ∙ exact_found _ _ _ (λ n x fits made. search rules) z found c.map.ensures.cases)

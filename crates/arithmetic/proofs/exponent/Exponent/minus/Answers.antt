@@ -1,7 +1,8 @@
-use Rattle.std.proofs.Common.{ap, ◌∙◌}
-use Rattle.arithmetic.specs.Exponents.{difference_held}
-use Rattle.arithmetic.specs.DimensionMeaning.{exponent_of}
+use Rattle.std.proofs.Common.{refl, ◌∙◌, arith}
+use Rattle.std.proofs.lemmas.Int.{ints, to_z-of_z}
+use Rattle.std.proofs.lemmas.Bool.Decides.{nat_tests}
+use Rattle.arithmetic.proofs.Faults.{or_out_of_range}
 use Rattle.arithmetic.proofs.exponent.Exponent.minus.Goals as goal
 
 pub returns : goal.returns
-returns c = c.new.ensures ∙ ap exponent_of (difference_held c.args.self c.args.other)
+returns c = c.ok_or.ensures.value ∙ (or_out_of_range _ _ refl ∙ grind (arith, ints, nat_tests, to_z-of_z))

@@ -1,5 +1,5 @@
 use Rattle.std.proofs.Common.{ap, ◌∙◌, to_z-of_z}
-use Rattle.arithmetic.specs.InRange.{provided_some}
+use Rattle.records.proofs.Provided.{provided_some}
 use Rattle.arithmetic.specs.DimensionMeaning.{exponent_of}
 use Rattle.arithmetic.proofs.exponent.Exponent.new.Goals as goal
 

@@ -1,6 +1,0 @@
-use Rattle.std.proofs.Common.{refl}
-use Rattle.arithmetic.specs.InRange.{same_fault}
-use Rattle.arithmetic.proofs.faults.different_dimensions.Goals as goal
-
-pub returns : goal.returns
-returns c = same_fault _ _ refl
