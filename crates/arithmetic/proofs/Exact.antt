@@ -10,13 +10,13 @@ use Rattle.arithmetic.specs.WholeMeaning.{exact}
 use Rattle.arithmetic.specs.declared.whole.Whole.{Whole}
 
 -- a whole number fits 32 bits
-whole_fits : (z : ℤ) → is_whole z ≡ true → FitsSigned w32 z
+pub whole_fits : (z : ℤ) → is_whole z ≡ true → FitsSigned w32 z
 whole_fits z e = record { sfits = grind (arith, ints, nat_tests) }
 
 pub exact_there : (x : Whole) (z : ℤ) → x.number ≡ z → Ok x ≡ exact z
 exact_there x z e = ap (λ o. ok_or o out_of_range) (provided_some _ _ x.within) ∙ ap exact e
 
-exact_missing : (z : ℤ) → ¬ (FitsSigned w32 z) → Err out_of_range ≡ exact z
+pub exact_missing : (z : ℤ) → ¬ (FitsSigned w32 z) → Err out_of_range ≡ exact z
 exact_missing z missing =
     ap (λ o. ok_or o out_of_range) (provided_none (is_whole z) _ (false_from_ne_true _ (λ e. missing (whole_fits z e))))
 
