@@ -1,22 +1,16 @@
 -- Exponents by their powers, and a dimension packed and unpacked. Assumes nothing.
-use Rattle.std.specs.Prelude.{◌≡◌, ◌+◌, ◌*◌, ◌/◌, ◌%◌, true, ℤ}
-use Rattle.std.proofs.Math.Bool.{Bool-set}
-use Rattle.std.proofs.Common.{subst, arith}
+use Rattle.std.specs.Prelude.{◌≡◌, ◌+◌, ◌*◌, ◌/◌, ◌%◌, ℤ}
+use Rattle.std.proofs.Common.{arith}
 use Rattle.std.specs.Int.{w8, cast_signed, cast_unsigned}
 use Rattle.arithmetic.specs.DimensionMeaning.{dimension_word, nearest, word_dimension}
-use Rattle.arithmetic.specs.Ranges.{is_exponent}
+use Rattle.arithmetic.specs.Ranges.{is_exponent, same_made}
 use Rattle.arithmetic.specs.declared.dimension.Dimension.{Dimension}
 use Rattle.arithmetic.specs.declared.exponent.Exponent.{Exponent}
 use Rattle.std.proofs.lemmas.Int.{ints}
 use Rattle.std.proofs.lemmas.Bool.Decides.{nat_tests}
 
 pub same_exponent : (x y : Exponent) → x.power ≡ y.power → x ≡ y
-same_exponent x y e =
-    subst
-    (λ (z : ℤ). (within : is_exponent z ≡ true) → x ≡ record { power = z; within = within })
-    e
-    (λ within i. record { power = x.power; within = Bool-set _ _ x.within within i })
-    y.within
+same_exponent x y = same_made is_exponent (λ z within. record { power = z; within = within }) x.power y.power x.within y.within
 
 nearest_kept : (x : Exponent) (z : ℤ) → z ≡ x.power → nearest z ≡ x
 nearest_kept x z e = same_exponent _ x (grind (arith, ints, nat_tests))
