@@ -60,6 +60,47 @@ const SIMPLE_THEN_INDEXED: &[u8] =
 const INDEXED_THEN_SIMPLE: &[u8] =
     b"\x02\x01\0\0\0\0\0\0\0\0\0\0\0\0\0\0\x02\xff\0\0\0\0\0\0\0\0\0\0\0\0\0\0";
 
+// A literal to 0, and one byte more.
+const LITERAL_AND_A_BYTE: &[u8] = b"\x02\x01\0\0\0\0\0\0\0\0\0\0\0\0\0\0\0";
+
+// An operation that there is not.
+const OPERATION_9: &[u8] = b"\x09\x01\0\0\0\0\0\0\0\0\0\0\0\0\0\0";
+
+const OPERATION_0: &[u8] = b"\0\x01\0\0\0\0\0\0\0\0\0\0\0\0\0\0";
+
+const OPERATION_8: &[u8] = b"\x08\x01\0\0\0\0\0\0\0\0\0\0\0\0\0\0";
+
+// Inputs whose number is out of range.
+const INPUT_64: &[u8] = b"\x01\x01\0\0\x40\0\0\0\0\0\0\0\0\0\0\0";
+
+const INPUT_MINUS_1: &[u8] = b"\x01\x01\0\0\xff\xff\xff\xff\0\0\0\0\0\0\0\0";
+
+// An addition with an argument.
+const ADD_WITH_ARGUMENT: &[u8] = b"\x04\x01\0\0\x01\0\0\0\0\0\0\0\0\0\0\0";
+
+// Places that are too many, that are not counted, and that do not ascend.
+const FIVE_PLACES: &[u8] = b"\x02\x05\0\0\0\0\0\0\0\0\x01\0\x02\0\x03\0";
+
+const PLACE_NOT_COUNTED: &[u8] = b"\x02\x01\0\0\0\0\0\0\0\0\x01\0\0\0\0\0";
+
+const SAME_PLACE_TWICE: &[u8] = b"\x02\x02\0\0\0\0\0\0\x01\0\x01\0\0\0\0\0";
+
+const PLACES_DESCEND: &[u8] = b"\x02\x02\0\0\0\0\0\0\x02\0\x01\0\0\0\0\0";
+
+// A literal to the rear, with a place.
+const REAR_WITH_A_PLACE: &[u8] = b"\x02\xff\0\0\0\0\0\0\x01\0\0\0\0\0\0\0";
+
+// A literal to the last place that there can be, and one past it.
+const LITERAL_TO_4095: &[u8] = b"\x02\x01\0\0\0\0\0\0\xff\x0f\0\0\0\0\0\0";
+
+const LITERAL_TO_4096: &[u8] = b"\x02\x01\0\0\0\0\0\0\0\x10\0\0\0\0\0\0";
+
+// A literal to four places.
+const LITERAL_TO_FOUR: &[u8] = b"\x02\x04\0\0\xff\xff\xff\xff\0\0\x01\0\x02\0\x03\0";
+
+// The last input, of the last node.
+const INPUT_63: &[u8] = b"\x01\x01\xff\xff\x3f\0\0\0\0\0\0\0\0\0\0\0";
+
 #[test]
 fn sound_code_passes(rt: HostRuntime) -> Result<(), Fail> {
     let examples: [Example; 8] = [
@@ -69,18 +110,8 @@ fn sound_code_passes(rt: HostRuntime) -> Result<(), Fail> {
         (SQUARE, 5000, 1, "passes"),
         (DIFFERENCE, 2, 1, "passes"),
         (b"\x02\0\0\0\0\0\0\0\0\0\0\0\0\0\0\0", 0, 0, "passes"),
-        (
-            b"\x02\x04\0\0\xff\xff\xff\xff\0\0\x01\0\x02\0\x03\0",
-            4,
-            4,
-            "passes",
-        ),
-        (
-            b"\x01\x01\xff\xff\x3f\0\0\0\0\0\0\0\0\0\0\0",
-            1,
-            1,
-            "passes",
-        ),
+        (LITERAL_TO_FOUR, 4, 4, "passes"),
+        (INPUT_63, 1, 1, "passes"),
     ];
     are_answered(&rt, rt.alloc(), &examples)
 }
@@ -103,24 +134,9 @@ fn unsound_code_is_refused(rt: HostRuntime) -> Result<(), Fail> {
         (SQUARE, 2, 0, "refused 25 at 4"),
         (SQUARE, 2, 2, "refused 25 at 4"),
         (DIFFERENCE, 1, 1, "refused 24 at 1"),
-        (
-            b"\x02\x01\0\0\0\0\0\0\xff\x0f\0\0\0\0\0\0",
-            5000,
-            0,
-            "refused 25 at 1",
-        ),
-        (
-            b"\x02\x01\0\0\0\0\0\0\0\x10\0\0\0\0\0\0",
-            5000,
-            0,
-            "refused 24 at 0",
-        ),
-        (
-            b"\x02\x01\0\0\0\0\0\0\0\x10\0\0\0\0\0\0",
-            4096,
-            0,
-            "refused 24 at 0",
-        ),
+        (LITERAL_TO_4095, 5000, 0, "refused 25 at 1"),
+        (LITERAL_TO_4096, 5000, 0, "refused 24 at 0"),
+        (LITERAL_TO_4096, 4096, 0, "refused 24 at 0"),
     ];
     are_answered(&rt, rt.alloc(), &examples)
 }
@@ -128,82 +144,22 @@ fn unsound_code_is_refused(rt: HostRuntime) -> Result<(), Fail> {
 #[test]
 fn malformed_code_is_refused(rt: HostRuntime) -> Result<(), Fail> {
     let examples: [Example; 16] = [
-        (
-            b"\x02\x01\0\0\0\0\0\0\0\0\0\0\0\0\0\0\0",
-            2,
-            1,
-            "refused 20 at 0",
-        ),
+        (LITERAL_AND_A_BYTE, 2, 1, "refused 20 at 0"),
         (b"\x09", 2, 17, "refused 20 at 0"),
         (b"", 2, 17, "refused 16 at 0"),
-        (
-            b"\x09\x01\0\0\0\0\0\0\0\0\0\0\0\0\0\0",
-            2,
-            17,
-            "refused 16 at 0",
-        ),
+        (OPERATION_9, 2, 17, "refused 16 at 0"),
         (SIMPLE_THEN_INDEXED, 4, 3, "refused 21 at 2"),
         (INDEXED_THEN_SIMPLE, 4, 2, "refused 21 at 1"),
-        (
-            b"\0\x01\0\0\0\0\0\0\0\0\0\0\0\0\0\0",
-            2,
-            1,
-            "refused 21 at 0",
-        ),
-        (
-            b"\x08\x01\0\0\0\0\0\0\0\0\0\0\0\0\0\0",
-            2,
-            1,
-            "refused 21 at 0",
-        ),
-        (
-            b"\x01\x01\0\0\x40\0\0\0\0\0\0\0\0\0\0\0",
-            2,
-            1,
-            "refused 21 at 0",
-        ),
-        (
-            b"\x01\x01\0\0\xff\xff\xff\xff\0\0\0\0\0\0\0\0",
-            2,
-            1,
-            "refused 21 at 0",
-        ),
-        (
-            b"\x04\x01\0\0\x01\0\0\0\0\0\0\0\0\0\0\0",
-            2,
-            1,
-            "refused 21 at 0",
-        ),
-        (
-            b"\x02\x05\0\0\0\0\0\0\0\0\x01\0\x02\0\x03\0",
-            9,
-            1,
-            "refused 21 at 0",
-        ),
-        (
-            b"\x02\x01\0\0\0\0\0\0\0\0\x01\0\0\0\0\0",
-            9,
-            1,
-            "refused 21 at 0",
-        ),
-        (
-            b"\x02\x02\0\0\0\0\0\0\x01\0\x01\0\0\0\0\0",
-            9,
-            1,
-            "refused 21 at 0",
-        ),
-        (
-            b"\x02\x02\0\0\0\0\0\0\x02\0\x01\0\0\0\0\0",
-            9,
-            1,
-            "refused 21 at 0",
-        ),
-        (
-            b"\x02\xff\0\0\0\0\0\0\x01\0\0\0\0\0\0\0",
-            9,
-            1,
-            "refused 21 at 0",
-        ),
+        (OPERATION_0, 2, 1, "refused 21 at 0"),
+        (OPERATION_8, 2, 1, "refused 21 at 0"),
+        (INPUT_64, 2, 1, "refused 21 at 0"),
+        (INPUT_MINUS_1, 2, 1, "refused 21 at 0"),
+        (ADD_WITH_ARGUMENT, 2, 1, "refused 21 at 0"),
+        (FIVE_PLACES, 9, 1, "refused 21 at 0"),
+        (PLACE_NOT_COUNTED, 9, 1, "refused 21 at 0"),
+        (SAME_PLACE_TWICE, 9, 1, "refused 21 at 0"),
+        (PLACES_DESCEND, 9, 1, "refused 21 at 0"),
+        (REAR_WITH_A_PLACE, 9, 1, "refused 21 at 0"),
     ];
     are_answered(&rt, rt.alloc(), &examples)
 }

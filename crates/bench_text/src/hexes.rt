@@ -37,8 +37,8 @@ pub(crate) fn code_record(line: &[u8]) -> Option<[u8; RECORD_BYTES]>
     }
     let (pairs, _) = line.as_chunks::<2>();
     let mut bytes = [0u8; RECORD_BYTES];
-    for (i, [first, second]) in pairs.iter().enumerate() {
-        bytes[i] = byte(*first, *second)?;
+    for (i, &[first, second]) in pairs.iter().enumerate() {
+        bytes[i] = byte(first, second)?;
     }
     Some(bytes)
 }

@@ -5,5 +5,4 @@ pub mod RoundTrip
 pub mod Chunks
 pub mod Counts
 pub mod MarkRings
-pub mod Walks
 pub mod Verdicts

@@ -1,10 +1,6 @@
 -- What must have held where a value came out. Assumes nothing.
 use Rattle.std.proofs.Common.{◌≡◌, Bool, true, false, cond, Some, None, Option, refl}
-use Rattle.std.specs.Option.{option_and_then, option_map}
-
-pub and_then_at : {X Y : Type 0} (f : X → Option Y) (o : Option X) (y : Y) → option_and_then f o ≡ Some y → (x : X) × (o ≡ Some x) × (f x ≡ Some y)
-and_then_at f None y e = absurd (cc)
-and_then_at f (Some x) y e = (x, refl, e)
+use Rattle.std.specs.Option.{option_map}
 
 pub mapped_at : {X Y : Type 0} (f : X → Y) (o : Option X) (y : Y) → option_map f o ≡ Some y → (x : X) × (o ≡ Some x) × (f x ≡ y)
 mapped_at f None y e = absurd (cc)

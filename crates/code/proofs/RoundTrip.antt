@@ -5,7 +5,8 @@ use Rattle.std.proofs.lemmas.Nat.{from_le_bytes-to_le_bytes_2, from_le_bytes-to_
 use lib.Signed.{mag, le_z}
 use Rattle.records.proofs.Provided.{provided_at, provided_some}
 use Rattle.std.specs.Option.{option_and_then, option_map}
-use Rattle.code.proofs.Options.{and_then_at, cond_at, mapped_at}
+use Rattle.std.proofs.lemmas.Option.{option_and_then_some}
+use Rattle.code.proofs.Options.{cond_at, mapped_at}
 use Rattle.code.specs.Bytes.{byte_at, i32_at, i32_bytes, u16_at, u16_bytes}
 use Rattle.code.specs.Lawful.{all_below, all_zero, argument_range, places_lawful, record_lawful}
 use Rattle.code.specs.Layout.{count_byte, decode, fields_at, fields_bytes, layout, place_fields, places_of, record_of, target_of}
@@ -53,7 +54,7 @@ zero_at (x ∷ xs) zero h = eqb-true x 0 (and_parts (eqb x 0) _ h).0
 zero_at (x ∷ xs) (suc i) h = zero_at xs i (and_parts (eqb x 0) _ h).1
 
 module _ (r : Record) where
-  pub argument_fits : SFits w32 r.argument
+  argument_fits : SFits w32 r.argument
   argument_fits =
       let o = r.operation in
       let z = r.argument in
@@ -61,10 +62,10 @@ module _ (r : Record) where
       let ends = small_range o in
       record { sfits = fits_between (argument_range o).0 (argument_range o).1 z ends.0 ends.1 range.0 range.1 }
 
-  pub node_fits : r.node < 65536
+  node_fits : r.node < 65536
   node_fits = ltb-true r.node 65536 (and_parts _ _ r.lawful).0
 
-pub field_fits : (t : Target) (i : ℕ) → get_or (place_fields t) i 0 < 65536
+field_fits : (t : Target) (i : ℕ) → get_or (place_fields t) i 0 < 65536
 field_fits Rear zero = lit< tt
 field_fits Rear (suc zero) = lit< tt
 field_fits Rear (suc (suc zero)) = lit< tt
@@ -161,17 +162,16 @@ module _ (bs : List ℕ) (small : (i : ℕ) → get_or bs i 0 < 256) where
   written_back r e =
       let whole = cond_at (eqb (length bs) 16) _ r e in
       let long : length bs ≡ 0 + 16 = eqb-true (length bs) 16 whole.0 in
-      let found = and_then_at _ (operation (byte_at bs 0)) r whole.1 in
-      let aimed = and_then_at _ (target_of (byte_at bs 1) (fields_at bs)) r found.2 in
-      let target = target_read (byte_at bs 1) (fields_at bs) aimed.0 refl aimed.1 in
-      let made = (provided_at (record_lawful found.0 (u16_at bs 2) (i32_at bs 4)) _ r aimed.2).1 in
       let row : ℕ → ℕ → List ℕ → List ℕ → List ℕ → List ℕ = λ o k ns zs fs. o ∷ k ∷ (ns ++ (zs ++ fs)) in
-      ap layout (sym made)
-      ∙ (λ i. row (number_of_operation (byte_at bs 0) found.0 found.1 i) (target.0 i) (pair 2 3 i) (argument_bytes i) (fields_bytes (target.1 i)))
+      option_and_then_some _ (operation (byte_at bs 0)) r whole.1 (λ o found rest.
+      option_and_then_some _ (target_of (byte_at bs 1) (fields_at bs)) r rest (λ t aimed last.
+      let target = target_read (byte_at bs 1) (fields_at bs) t refl aimed in
+      ap layout (sym (provided_at (record_lawful o (u16_at bs 2) (i32_at bs 4)) _ r last).1)
+      ∙ (λ i. row (number_of_operation (byte_at bs 0) o found i) (target.0 i) (pair 2 3 i) (argument_bytes i) (fields_bytes (target.1 i)))
       ∙ (λ i. row (byte_at bs 0) (byte_at bs 1) (get_or bs 2 0 ∷ get_or bs 3 0 ∷ []) (get_or bs 4 0 ∷ get_or bs 5 0 ∷ get_or bs 6 0 ∷ get_or bs 7 0 ∷ []) (pair 8 9 i ++ (pair 10 11 i ++ (pair 12 13 i ++ pair 14 15 i))))
-      ∙ items_are 0 16 bs long
+      ∙ items_are 0 16 bs long))
 
   -- bytes read as the record of that layout, or no record has it
   pub reading_law : (o : Option Record) → o ≡ decode bs → MatchOption o ((x : Record) → layout x ≡ bs → ⊥) (λ x. layout x ≡ bs)
-  reading_law None e = λ x same. let z : ◌≡◌ {A = ℕ} 0 1 = (let h = e ∙ ap decode (sym same) ∙ reads_back x in cc) in omega arith
+  reading_law None e = λ x same. let h = e ∙ ap decode (sym same) ∙ reads_back x in absurd (cc)
   reading_law (Some x) e = written_back x (sym e)

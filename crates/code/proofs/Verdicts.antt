@@ -15,7 +15,7 @@ module _ (code : List ℕ) (P : ℕ) where
   marks_on n ms next before is =
       ap (marks_after code P) (add-one n) ∙ ap (λ a. if_granted a (step_at n (lawful_at code n))) before ∙ sym is
 
-  pub marks_stay : (n m number place fault : ℕ) → n ≤ m → marks_after code P n ≡ refused number place fault → marks_after code P m ≡ refused number place fault
+  marks_stay : (n m number place fault : ℕ) → n ≤ m → marks_after code P n ≡ refused number place fault → marks_after code P m ≡ refused number place fault
   marks_stay n m number place fault h e =
       stays (marks_after code P) (refused number place fault) (λ k. ap (λ a. if_granted a (step_at k (lawful_at code k)))) n m h e
 

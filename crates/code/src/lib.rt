@@ -7,7 +7,6 @@ mod places;
 mod record;
 mod sequence;
 mod target;
-mod walk;
 
 pub use checker::{MOST_RECORDS, MOST_RESULTS, check};
 pub use marks::MOST_PLACES;

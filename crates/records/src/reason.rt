@@ -1,7 +1,6 @@
 // Why a call is turned away: one case for each of the thirty refusals.
 ghost use Rattle.std.specs.Prelude.{◌≡◌, ◌↔◌, IsTrue, nat_eq};
 ghost use Rattle.records.specs.Refusals.{fault_number, fault_of, reason_number, reason_numbers};
-ghost use Rattle.std.specs.Option.{option_map_or};
 ghost use Rattle.std.specs.Ordering.{eq_of_both, on};
 ghost use Rattle.std.specs.Cmp.Rules.{comparing};
 ghost use Rattle.std.proofs.Common.{rules};
@@ -92,8 +91,7 @@ impl Reason {
 
     /// The fault that a refusal 29 carries.
     pub fn fault(&self) -> Option<Fault>
-        ensures value { result ≡ fault_of self.now }
-        ensures number { option_map_or (λ f. f.number) result 0 ≡ fault_number self.now }
+        ensures { result ≡ fault_of self.now }
     {
         match self {
             Reason::Faulted(fault) => Some(*fault),

@@ -1,4 +1,5 @@
--- The places of a ring over slots: how many, what a look and a write meet, what a turn makes of them. Assumes nothing.
+-- The places of a ring over slots: how many, what a look and a write meet, what a turn makes of them. The clauses of `Ring`
+-- speak of slots that hold numbers; a crate with slots of another type cites these. Assumes nothing.
 use Rattle.std.proofs.Common.{◌≡◌, ℕ, ◌+◌, ◌-◌, ◌<◌, ◌≤◌, cond, ltb, ◌⊎◌, List, length, get_or, take, set, Some, None, Option, sym, ap, ◌∙◌, inl, inr, ⊎_elim, add-zero, append-nil, arith, length-set, MatchOption}
 use lib.Seq.{take-set-lt}
 use Rattle.ring.proofs.RingViews.{view_length, view_before, view_after, set_before, set_after, view_turn, view_over}
