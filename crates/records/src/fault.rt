@@ -1,6 +1,10 @@
 // The fault of an arithmetic: a number from 1 to 255.
 ghost use Rattle.std.specs.Prelude.{◌≡◌, ◌≤◌, MatchOption};
 
+use std::error::Error;
+use std::fmt;
+
+/// Why an arithmetic has no result.
 #[derive(Clone, Copy, Debug, PartialEq, Eq)]
 pub struct Fault {
     number: u8,
@@ -26,6 +30,7 @@ impl Fault {
         Some(Fault { number })
     }
 
+    /// Its number, 1 to 255.
     pub fn number(&self) -> u8
         ensures value { result ≡ self.now.number }
         ensures from_one { 1 ≤ result }
@@ -33,3 +38,15 @@ impl Fault {
         self.number
     }
 }
+
+impl fmt::Display for Fault {
+    ghost use Rattle.std.specs.Prelude.{Some, ◌++◌, codes, decimal};
+
+    ghost output = { λ fault. Some (codes "fault " ++ decimal fault.number) };
+
+    fn fmt<W: fmt::Write>(&self, f: &mut fmt::Formatter<W>) -> fmt::Result {
+        write!(f, "fault {}", self.number)
+    }
+}
+
+impl Error for Fault {}

@@ -6,6 +6,7 @@ use crate::reason::Reason;
 use std::error::Error;
 use std::fmt;
 
+/// What is refused, and at which byte, node, record or place.
 #[derive(Clone, Copy, Debug, PartialEq, Eq)]
 pub struct Refusal {
     pub reason: Reason,
@@ -32,11 +33,7 @@ impl fmt::Display for Refusal {
         let place = self.place;
         match self.reason.fault() {
             None => write!(f, "refused {number} at {place}"),
-            Some(fault) => write!(
-                f,
-                "refused {number} at {place} with fault {}",
-                fault.number()
-            ),
+            Some(fault) => write!(f, "refused {number} at {place} with {fault}"),
         }
     }
 }
