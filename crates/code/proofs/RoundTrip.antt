@@ -1,5 +1,5 @@
 -- Reading undoes writing, and writing undoes reading. Assumes nothing.
-use Rattle.std.proofs.Common.{◌≡◌, ℕ, zero, suc, ◌+◌, ◌<◌, true, eqb, ltb, leb, List, [], ◌∷◌, ◌++◌, length, get_or, drop, ℤ, pos, negsuc, Some, None, Option, sym, refl, ap, ◌∙◌, ⊎_elim, arith, lit<, w32, SFits, to_z, of_z, MatchOption}
+use Rattle.std.proofs.Common.{◌≡◌, ℕ, zero, suc, ◌+◌, ◌-◌, ◌<◌, true, eqb, ltb, leb, List, [], ◌∷◌, ◌++◌, length, get_or, drop, ℤ, Some, None, Option, sym, refl, ap, ◌∙◌, ⊎_elim, arith, lit<, w32, SFits, to_z, of_z, MatchOption}
 use Rattle.std.specs.Int.{from_le_bytes, to_le_bytes, w16}
 use Rattle.std.proofs.lemmas.Nat.{from_le_bytes-to_le_bytes_2, from_le_bytes-to_le_bytes_4, le_bytes_2, le_bytes_4}
 use lib.Signed.{mag, le_z}
@@ -17,18 +17,16 @@ use Rattle.records.proofs.Operations.{number_of_operation, operation_of_number}
 use Rattle.records.specs.Operations.{operation}
 use Rattle.records.specs.declared.operation.Operation.{Operation}
 use Rattle.records.specs.declared.operation.Operation.TheVariants.{Input, Literal, Negate, Add, Subtract, Multiply, Divide}
-use Rattle.std.proofs.lemmas.List.{drop_all, drop_more}
-use Rattle.std.proofs.lemmas.Int.{to_z-of_z, of_z-to_z}
-use Rattle.std.proofs.lemmas.Bool.{and_parts, cases_Bool, cond-false, cond-true, eqb-true, false≢true, leb-true, ltb-true, ne_eqb}
+use Rattle.std.proofs.lemmas.List.{drop_all, drop_more, get_or_default, places, same_lists}
+use Rattle.std.proofs.lemmas.Int.{ints, to_z-of_z, of_z-to_z}
+use Rattle.std.proofs.lemmas.Bool.Decides.{nat_tests}
+use Rattle.std.proofs.lemmas.Bool.{and_parts, cases_Bool, cond-false, cond-true, eqb-true, leb-true, ltb-true, ne_eqb}
 
 -- ---- what fits
 
 -- an argument between two ends of 32 bits has 32 bits
 fits_between : (low high z : ℤ) → mag low < 2147483648 → mag high < 2147483648 → le_z low z ≡ true → le_z z high ≡ true → mag z < 2147483648
-fits_between low (pos b) (pos n) l h from to = omega (arith, leb-true n b to)
-fits_between low (negsuc b) (pos n) l h from to = absurd (false≢true to)
-fits_between (pos a) high (negsuc n) l h from to = absurd (false≢true from)
-fits_between (negsuc a) high (negsuc n) l h from to = omega (arith, leb-true n a from)
+fits_between low high z l h from to = grind (arith, ints, nat_tests)
 
 small_range : (o : Operation) → (mag (argument_range o).0 < 2147483648) × (mag (argument_range o).1 < 2147483648)
 small_range Input = (lit< tt, lit< tt)
@@ -40,18 +38,15 @@ small_range Multiply = (lit< tt, lit< tt)
 small_range Divide = (lit< tt, lit< tt)
 
 of_z_below : (z : ℤ) → SFits w32 z → of_z w32 z < 4294967296
-of_z_below (pos n) f = omega (arith, f.sfits)
-of_z_below (negsuc n) f = omega (arith, f.sfits)
+of_z_below z f = grind (arith, ints, nat_tests, f.sfits)
 
 below_at : (n : ℕ) (xs : List ℕ) (i : ℕ) → 0 < n → all_below n xs ≡ true → get_or xs i 0 < n
 below_at n [] i some h = some
-below_at n (x ∷ xs) zero some h = ltb-true x n (and_parts (ltb x n) _ h).0
-below_at n (x ∷ xs) (suc i) some h = below_at n xs i some (and_parts (ltb x n) _ h).1
+below_at n (x ∷ xs) i some h = grind (arith, nat_tests, and_parts, below_at n xs (i - 1) some)
 
 zero_at : (xs : List ℕ) (i : ℕ) → all_zero xs ≡ true → get_or xs i 0 ≡ 0
 zero_at [] i h = refl
-zero_at (x ∷ xs) zero h = eqb-true x 0 (and_parts (eqb x 0) _ h).0
-zero_at (x ∷ xs) (suc i) h = zero_at xs i (and_parts (eqb x 0) _ h).1
+zero_at (x ∷ xs) i h = grind (arith, nat_tests, and_parts, zero_at xs (i - 1))
 
 module _ (r : Record) where
   argument_fits : SFits w32 r.argument
@@ -66,11 +61,7 @@ module _ (r : Record) where
   node_fits = ltb-true r.node 65536 (and_parts _ _ r.lawful).0
 
 field_fits : (t : Target) (i : ℕ) → get_or (place_fields t) i 0 < 65536
-field_fits Rear zero = lit< tt
-field_fits Rear (suc zero) = lit< tt
-field_fits Rear (suc (suc zero)) = lit< tt
-field_fits Rear (suc (suc (suc zero))) = lit< tt
-field_fits Rear (suc (suc (suc (suc i)))) = lit< tt
+field_fits Rear i = grind (arith, places)
 field_fits (At p) i = below_at 65536 p.fields i (lit< tt) (and_parts (all_below 65536 p.fields) _ (and_parts (eqb (length p.fields) 4) _ p.lawful).1).0
 
 four_fields : (t : Target) → length (place_fields t) ≡ 4
@@ -86,12 +77,7 @@ target_back (At p) =
     cond-false (eqb p.count 255) _ _ (ne_eqb p.count 255 (λ e. omega arith)) ∙ ap (option_map At) (sym (provided_some _ _ p.lawful))
 
 four_of : (fs : List ℕ) → length fs ≡ 4 → get_or fs 0 0 ∷ get_or fs 1 0 ∷ get_or fs 2 0 ∷ get_or fs 3 0 ∷ [] ≡ fs
-four_of [] e = absurd (omega arith)
-four_of (a ∷ []) e = absurd (omega arith)
-four_of (a ∷ b ∷ []) e = absurd (omega arith)
-four_of (a ∷ b ∷ c ∷ []) e = absurd (omega arith)
-four_of (a ∷ b ∷ c ∷ d ∷ []) e = refl
-four_of (a ∷ b ∷ c ∷ d ∷ x ∷ xs) e = absurd (omega arith)
+four_of fs e = same_lists _ fs (sym e) (λ k d h. grind (arith, places, get_or_default))
 
 -- a record from its parts, each of which may be missing
 abbrev assembled : Option Operation → Option Target → ℕ → ℤ → Option Record
