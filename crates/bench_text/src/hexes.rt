@@ -37,6 +37,7 @@ pub(crate) fn code_record(line: &[u8]) -> Option<[u8; RECORD_BYTES]>
     }
     let (pairs, _) = line.as_chunks::<2>();
     let mut bytes = [0u8; RECORD_BYTES];
+    // By number, since of the items of an `iter_mut` under `zip` nothing is known afterwards.
     for (i, &[first, second]) in pairs.iter().enumerate() {
         bytes[i] = byte(first, second)?;
     }

@@ -45,6 +45,7 @@ fn run(rt: &(impl Input + Print), heap: Global) -> anyhow::Result<()> {
 }
 
 fn main(rt: HostRuntime) -> anyhow::Result<ExitCode> {
+    // Not by `?`: the library would print the error once more.
     let Err(error) = run(&rt, rt.alloc()) else {
         return Ok(ExitCode::SUCCESS);
     };

@@ -59,6 +59,7 @@ pub fn check(code: &[u8], places: usize, results: usize) -> Result<(), Refusal>
     well_formed(code, results)?;
     let records = record_count(code);
     let mut marks = Marks::empty(places);
+    // A `for`, since the body changes the marks, and the number is what a refusal tells.
     for index in 0..records {
         step_at(code, index, &mut marks)?;
     }

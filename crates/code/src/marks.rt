@@ -13,7 +13,7 @@ use std::marker::Model;
 /// The most places that a queue has.
 pub const MOST_PLACES: usize = 4096;
 
-// Which places are full, the front place first.
+// Which places are full, the front place first; an array, since a library crate has no heap.
 #[derive(Drop)]
 pub(crate) struct Marks {
     slots: [bool; MOST_PLACES],

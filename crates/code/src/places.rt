@@ -2,7 +2,7 @@
 ghost use Rattle.std.specs.Prelude.{◌≡◌, true, nat_lt, take};
 ghost use Rattle.code.specs.Lawful.{all_zero, ascending, places_lawful};
 
-/// The first `count` fields are places, and the others are zero.
+/// The first `count` fields are places, and the others are zero; in fixed memory, and copied with its record.
 #[derive(Clone, Copy, Debug)]
 pub struct Places {
     pub count: u8,

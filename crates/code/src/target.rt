@@ -6,7 +6,8 @@ use crate::places::{Places, all_zero};
 // Byte 1 of a record that puts at the rear.
 pub(crate) const REAR: u8 = 255;
 
-/// At the first place after the full ones, or at these places, counted after the operands are passed.
+/// At the first place after the full ones, or at these places, counted after the operands are passed. The rear is a place of
+/// its own and not the want of places, so this is no `Option`.
 #[derive(Clone, Copy, Debug)]
 pub enum Target {
     Rear,

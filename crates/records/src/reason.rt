@@ -51,7 +51,7 @@ pub enum Reason {
 }
 
 impl Reason {
-    /// The number of the refusal, 1 to 30.
+    /// The number of the refusal, 1 to 30; a case with a field can have no discriminant.
     pub fn number(&self) -> u8
         ensures { result ≡ reason_number self.now }
     {
@@ -100,6 +100,7 @@ impl Reason {
     }
 }
 
+// By hand, since of a derived one on so many cases nothing says that reasons which it calls equal are equal.
 impl PartialEq for Reason {
     ghost eq = { eq_of_both (on reason_number nat_eq) (on fault_number nat_eq) };
 
