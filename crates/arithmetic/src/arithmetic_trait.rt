@@ -4,6 +4,7 @@ ghost use Rattle.arithmetic.specs.Meaning.{Meaning};
 
 use records::Fault;
 
+/// Values as words, and an answer to each operation on them.
 pub trait Arithmetic {
     type Value: Copy;
 

@@ -9,6 +9,7 @@ use crate::dimension::Dimension;
 use crate::exponent::Exponent;
 use records::Fault;
 
+/// The arithmetic itself.
 #[derive(Clone, Copy, Debug)]
 pub struct Dimensions;
 

@@ -4,6 +4,7 @@ ghost use Rattle.arithmetic.specs.Ranges.{is_exponent};
 
 use records::Fault;
 
+/// A power that a unit is raised to. `Default` is by hand, since a ghost field has no derive of it.
 #[derive(Clone, Copy, Debug, PartialEq, Eq)]
 pub struct Exponent {
     pub(crate) power: i8,
@@ -31,6 +32,7 @@ impl From<Exponent> for i8 {
 impl Exponent {
     ghost use Rattle.arithmetic.specs.DimensionMeaning.{exact_exponent, exponent_of, nearest};
 
+    /// The ends of the range.
     pub const LOWEST: i8 = -64;
 
     pub const HIGHEST: i8 = 63;

@@ -11,6 +11,7 @@ use crate::whole::Whole;
 use records::Fault;
 use std::num::NonZeroI32;
 
+/// The arithmetic itself.
 #[derive(Clone, Copy, Debug)]
 pub struct WholeNumbers;
 
@@ -35,8 +36,8 @@ impl Arithmetic for WholeNumbers {
     }
 
     fn unpack(&self, word: u64) -> Whole {
-        let low_bits = (word % 0x1_0000_0000) as u32;
-        Whole::from(low_bits.cast_signed())
+        let [a, b, c, d, ..] = word.to_le_bytes();
+        Whole::from(i32::from_le_bytes([a, b, c, d]))
     }
 
     fn literal(&self, argument: i32) -> Result<Whole, Fault> {

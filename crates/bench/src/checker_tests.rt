@@ -187,7 +187,7 @@ fn next(seed: u64) -> u64 {
 
 // A number below n, from the higher half of the seed.
 fn draw(seed: u64, n: u64) -> u64 {
-    if n == 0 { 0 } else { (seed >> 33) % n }
+    (seed >> 33).checked_rem(n).unwrap_or(0)
 }
 
 // Every answer is a yes or one of the checker's refusals.

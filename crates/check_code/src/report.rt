@@ -23,6 +23,7 @@ impl fmt::Display for Count<'_> {
     }
 }
 
+/// The counts of a text, and the verdict on its code.
 #[derive(Clone, Copy)]
 pub struct Report {
     pub counts: BenchCounts,

@@ -73,9 +73,7 @@ impl Marks {
     fn put(&mut self, k: usize) -> Result<(), Reason>
         ensures { (index : ℕ) → outcome_at index result self.new ≡ puts index (k ∷ []) self.old }
     {
-        let Some(slot) = self.ring.slot(k) else {
-            return Err(Reason::PlaceMissing);
-        };
+        let slot = self.ring.slot(k).ok_or(Reason::PlaceMissing)?;
         if self.slots[slot] {
             return Err(Reason::PlaceFull);
         }
@@ -88,12 +86,11 @@ impl Marks {
     fn pass(&mut self)
         ensures { self.new ≡ pass self.old }
     {
-        let Some(front) = self.ring.slot(0) else {
-            return;
-        };
-        self.full -= usize::from(self.slots[front]);
-        self.slots[front] = false;
-        self.ring.turn();
+        if let Some(front) = self.ring.slot(0) {
+            self.full -= usize::from(self.slots[front]);
+            self.slots[front] = false;
+            self.ring.turn();
+        }
     }
 
     // Whether the first n places are full.

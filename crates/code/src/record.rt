@@ -64,10 +64,7 @@ impl Record {
             r1,
             s0,
             s1,
-        ] = bytes
-        else {
-            return None;
-        };
+        ]: &[u8; 16] = bytes.try_into().ok()?;
         let fields = [
             u16::from_le_bytes([p0, p1]),
             u16::from_le_bytes([q0, q1]),

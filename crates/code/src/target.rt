@@ -28,6 +28,7 @@ impl Target {
         }
     }
 
+    /// Whether the record puts at the rear.
     pub fn is_rear(&self) -> bool
         ensures { result ≡ is_rear self.now }
     {

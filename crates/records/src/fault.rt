@@ -13,11 +13,13 @@ pub struct Fault {
 }
 
 impl Fault {
-    /// The faults that an arithmetic of this product answers.
+    /// A result out of the range of the values.
     pub const OUT_OF_RANGE: Fault = Fault { number: 1 };
 
+    /// A division by zero.
     pub const DIVISOR_ZERO: Fault = Fault { number: 2 };
 
+    /// A sum or a difference of values of two dimensions.
     pub const DIFFERENT_DIMENSIONS: Fault = Fault { number: 3 };
 
     /// The fault of this number; 0 is none.

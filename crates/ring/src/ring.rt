@@ -23,6 +23,7 @@ impl Ring {
         Ring::unturned(size)
     }
 
+    // Apart, as the two below, so that a slip here breaks a contract of its own.
     fn unturned(size: usize) -> Ring
         ensures size { result.size ≡ size }
         ensures front { result.front ≡ 0 }
@@ -30,6 +31,7 @@ impl Ring {
         Ring { size, front: 0 }
     }
 
+    /// How many places it has.
     pub fn size(&self) -> usize
         ensures { result ≡ self.now.size }
     {

@@ -12,7 +12,7 @@ pub invariant_of-self : goal.invariant_of-self
 invariant_of-self c =
     pass_in_step c.self.inside c.self.invariant c.self.told c.in-Some.front (sym c.slot.ensures.value ∙ c.in-Some.is) c.turn.new.self c.turn.ensures.size c.turn.ensures.front c.from.result c.from.ensures
 
-pub returns : goal.returns
-returns c =
+pub returns-in-Some : goal.returns-in-Some
+returns-in-Some c =
     passes_place_0 c.self.inside c.self.invariant c.self.told c.in-Some.front (sym c.slot.ensures.value ∙ c.in-Some.is) c.turn.new.self c.turn.ensures.size c.turn.ensures.front
     ∙ ap pass c.self.view_is

@@ -1,4 +1,4 @@
-use Rattle.std.proofs.Common.{◌≡◌, [], ◌∷◌, set, subst, sym, true, ◌∙◌}
+use Rattle.std.proofs.Common.{◌≡◌, [], ◌∷◌, set, subst, arith, true, ◌∙◌}
 use Rattle.ring.specs.Held.{held}
 use Rattle.records.specs.Refusals.{granted}
 use Rattle.code.specs.Verdict.{puts}
@@ -7,10 +7,10 @@ use Rattle.code.proofs.marks.Marks.put.Goals as goal
 
 pub invariant_of-self : goal.invariant_of-self
 invariant_of-self c =
-    put_in_step c.self.inside c.self.invariant c.self.told c.args.k c.in-Some.slot (sym c.slot.ensures.value ∙ c.in-Some.is) c.if-self-slot.false
+    put_in_step c.self.inside c.self.invariant c.self.told c.args.k c.in_ok-slot.slot (grind (arith, c.slot.ensures.value, c.ok_or.ensures.value, c.branch-slot.ensures, c.in_ok-slot.is)) c.if-self-slot.false
 
 pub returns : goal.returns
 returns c index =
     let m = c.self.inside in
-    subst (λ ms. granted (held m.ring (set m.slots c.in-Some.slot true)) ≡ puts index (c.args.k ∷ []) ms) c.self.view_is
-    (put_granted m c.self.invariant c.self.told c.args.k c.in-Some.slot (sym c.slot.ensures.value ∙ c.in-Some.is) c.if-self-slot.false index)
+    subst (λ ms. granted (held m.ring (set m.slots c.in_ok-slot.slot true)) ≡ puts index (c.args.k ∷ []) ms) c.self.view_is
+    (put_granted m c.self.invariant c.self.told c.args.k c.in_ok-slot.slot (grind (arith, c.slot.ensures.value, c.ok_or.ensures.value, c.branch-slot.ensures, c.in_ok-slot.is)) c.if-self-slot.false index)
