@@ -1,4 +1,4 @@
-use Rattle.std.proofs.Common.{◌≡◌, [], ◌∷◌, set, subst, arith, true, ◌∙◌}
+use Rattle.std.proofs.Common.{◌≡◌, [], ◌∷◌, set, subst, arith, true}
 use Rattle.ring.specs.Held.{held}
 use Rattle.records.specs.Refusals.{granted}
 use Rattle.code.specs.Verdict.{puts}
