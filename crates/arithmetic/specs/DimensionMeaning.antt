@@ -14,6 +14,9 @@ use Rattle.records.specs.Faults.{different_dimensions, out_of_range}
 use Rattle.records.specs.Provided.{provided}
 use Rattle.records.specs.declared.fault.Fault.{Fault}
 
+abbrev pub power_of : Exponent → ℤ
+power_of exponent = exponent.power
+
 -- the exponent of this value, if there is one
 abbrev pub exponent_of : ℤ → Option Exponent
 exponent_of z = provided (is_exponent z) (λ e. record { power = z; within = e })

@@ -12,6 +12,9 @@ use Rattle.records.specs.Provided.{provided}
 use Rattle.records.specs.declared.fault.Fault.{Fault}
 use Rattle.std.specs.Option.{ok_or}
 
+abbrev pub number_of : Whole → ℤ
+number_of whole = whole.number
+
 -- the whole number of this value, if there is one
 abbrev pub whole_of : ℤ → Option Whole
 whole_of z = provided (is_whole z) (λ e. record { number = z; within = e })

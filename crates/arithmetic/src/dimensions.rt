@@ -9,7 +9,7 @@ use crate::dimension::Dimension;
 use crate::exponent::Exponent;
 use records::Fault;
 
-/// The arithmetic itself.
+/// The arithmetic of dimensions.
 #[derive(Clone, Copy, Debug)]
 pub struct Dimensions;
 

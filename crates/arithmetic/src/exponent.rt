@@ -22,7 +22,9 @@ impl Default for Exponent {
 }
 
 impl From<Exponent> for i8 {
-    ghost from_gives = { λ exponent power. power ≡ exponent.power };
+    ghost use Rattle.arithmetic.specs.DimensionMeaning.{power_of};
+
+    ghost from_gives = { λ exponent power. power ≡ power_of exponent };
 
     fn from(exponent: Exponent) -> i8 {
         exponent.power

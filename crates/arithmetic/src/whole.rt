@@ -10,7 +10,9 @@ pub struct Whole {
 }
 
 impl From<i32> for Whole {
-    ghost from_gives = { λ number whole. whole.number ≡ number };
+    ghost use Rattle.arithmetic.specs.WholeMeaning.{number_of};
+
+    ghost from_gives = { λ number whole. number_of whole ≡ number };
 
     fn from(number: i32) -> Whole {
         Whole { number }
@@ -18,7 +20,9 @@ impl From<i32> for Whole {
 }
 
 impl From<Whole> for i32 {
-    ghost from_gives = { λ whole number. number ≡ whole.number };
+    ghost use Rattle.arithmetic.specs.WholeMeaning.{number_of};
+
+    ghost from_gives = { λ whole number. number ≡ number_of whole };
 
     fn from(whole: Whole) -> i32 {
         whole.number

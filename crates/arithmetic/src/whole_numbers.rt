@@ -11,7 +11,7 @@ use crate::whole::Whole;
 use records::Fault;
 use std::num::NonZeroI32;
 
-/// The arithmetic itself.
+/// The arithmetic of whole numbers.
 #[derive(Clone, Copy, Debug)]
 pub struct WholeNumbers;
 

@@ -9,14 +9,14 @@ use Rattle.ring.specs.declared.ring.Ring.{Ring}
 use Rattle.records.specs.Refusals.{granted}
 use Rattle.code.proofs.Counts.{count_put, from_bool-is, full_count-pass}
 use Rattle.code.specs.declared.marks.Marks.TheInside.{Inside}
-use Rattle.code.specs.Marks.{InStep, full_count, pass}
+use Rattle.code.specs.Marks.{IsCounted, full_count, pass}
 use Rattle.code.specs.Verdict.{puts}
 
 -- a put on a place that is there and empty
 puts_one : (i k : ℕ) (ms : List Bool) → k < length ms → get_or ms k false ≡ false → granted (set ms k true) ≡ puts i (k ∷ []) ms
 puts_one i k ms there empty = sym (cond-true _ _ _ (lt-ltb k (length ms) there) ∙ cond-false _ _ _ empty)
 
-module _ (m : Inside) (so : InStep m.ring.size m.full (held m.ring m.slots)) (long : length m.slots ≡ 4096) where
+module _ (m : Inside) (so : IsCounted m.ring.size m.full (held m.ring m.slots)) (long : length m.slots ≡ 4096) where
   enough : m.ring.size ≤ length m.slots
   enough = omega (arith, so.few, long)
 
@@ -28,8 +28,8 @@ module _ (m : Inside) (so : InStep m.ring.size m.full (held m.ring m.slots)) (lo
     empty : get_or (held m.ring m.slots) k false ≡ false
     empty = held_at m.ring m.slots enough k j found false ∙ free
 
-    pub put_in_step : InStep m.ring.size (m.full + 1) (held m.ring (set m.slots j true))
-    put_in_step =
+    pub put_counted : IsCounted m.ring.size (m.full + 1) (held m.ring (set m.slots j true))
+    put_counted =
         let more = count_put (held m.ring m.slots) k there empty in
         let same = held_set m.ring m.slots enough k j found true in
         record { few = so.few; counted = ap (λ n. n + 1) so.counted ∙ sym more ∙ ap full_count (sym same) }
@@ -50,7 +50,7 @@ module _ (m : Inside) (so : InStep m.ring.size m.full (held m.ring m.slots)) (lo
       pub passes_place_0 : held s (set m.slots j false) ≡ pass (held m.ring m.slots)
       passes_place_0 = ap (λ i. held s (set m.slots i false)) (front_slot m.ring j found) ∙ held_turned m.ring m.slots enough s size front false
 
-      pub pass_in_step : (n : ℕ) → n ≡ from_bool (get_or m.slots j false) → InStep s.size (m.full - n) (held s (set m.slots j false))
-      pass_in_step n first =
+      pub pass_counted : (n : ℕ) → n ≡ from_bool (get_or m.slots j false) → IsCounted s.size (m.full - n) (held s (set m.slots j false))
+      pass_counted n first =
           let same = ap full_count passes_place_0 in
           record { few = omega (arith, size, so.few); counted = omega (arith, first_counted, first, same) }

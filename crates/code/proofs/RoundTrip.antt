@@ -17,7 +17,7 @@ use Rattle.records.proofs.Operations.{number_of_operation, operation_of_number}
 use Rattle.records.specs.Operations.{operation}
 use Rattle.records.specs.declared.operation.Operation.{Operation}
 use Rattle.records.specs.declared.operation.Operation.TheVariants.{Input, Literal, Negate, Add, Subtract, Multiply, Divide}
-use Rattle.std.proofs.lemmas.List.{drop_all, drop_more, get_or_default, places, same_lists}
+use Rattle.std.proofs.lemmas.List.{drop_all, drop_more, places}
 use Rattle.std.proofs.lemmas.Int.{ints, to_z-of_z, of_z-to_z}
 use Rattle.std.proofs.lemmas.Bool.Decides.{nat_tests}
 use Rattle.std.proofs.lemmas.Bool.{and_parts, cases_Bool, cond-false, cond-true, eqb-true, leb-true, ltb-true, ne_eqb}
@@ -76,8 +76,14 @@ target_back (At p) =
     let few = leb-true p.count 4 (and_parts (leb p.count 4) _ (and_parts (all_below 65536 p.fields) _ (and_parts (eqb (length p.fields) 4) _ p.lawful).1).1).0 in
     cond-false (eqb p.count 255) _ _ (ne_eqb p.count 255 (λ e. omega arith)) ∙ ap (option_map At) (sym (provided_some _ _ p.lawful))
 
-four_of : (fs : List ℕ) → length fs ≡ 4 → get_or fs 0 0 ∷ get_or fs 1 0 ∷ get_or fs 2 0 ∷ get_or fs 3 0 ∷ [] ≡ fs
-four_of fs e = same_lists _ fs (sym e) (λ k d h. grind (arith, places, get_or_default))
+-- the n elements from place k on
+abbrev items : ℕ → ℕ → List ℕ → List ℕ
+items k zero bs = []
+items k (suc n) bs = get_or bs k 0 ∷ items (k + 1) n bs
+
+items_are : (k n : ℕ) (bs : List ℕ) → length bs ≡ k + n → items k n bs ≡ drop k bs
+items_are k zero bs long = sym (drop_all k bs (omega arith))
+items_are k (suc n) bs long = ap (λ l. get_or bs k 0 ∷ l) (items_are (k + 1) n bs (omega arith)) ∙ sym (drop_more bs k 0 (omega arith))
 
 -- a record from its parts, each of which may be missing
 abbrev assembled : Option Operation → Option Target → ℕ → ℤ → Option Record
@@ -90,7 +96,7 @@ reads_back r =
     let field : ℕ → ℕ = λ i. get_or fs i 0 in
     let same : (i : ℕ) → from_le_bytes w16 (to_le_bytes w16 (field i)) ≡ field i = λ i. from_le_bytes-to_le_bytes_2 (field i) (field_fits t i) in
     let bits = of_z w32 r.argument in
-    let fields : fields_at (layout r) ≡ fs = (λ i. same 0 i ∷ same 1 i ∷ same 2 i ∷ same 3 i ∷ []) ∙ four_of fs (four_fields t) in
+    let fields : fields_at (layout r) ≡ fs = (λ i. same 0 i ∷ same 1 i ∷ same 2 i ∷ same 3 i ∷ []) ∙ items_are 0 4 fs (four_fields t) in
     let argument = ap (to_z w32) (from_le_bytes-to_le_bytes_4 bits (of_z_below r.argument (argument_fits r))) ∙ to_z-of_z w32 r.argument (argument_fits r) in
     (λ i. assembled (operation_of_number r.operation i) (target_of (count_byte t) (fields i)) (from_le_bytes-to_le_bytes_2 r.node (node_fits r) i) (argument i))
     ∙ ap (λ u. assembled (Some r.operation) u r.node r.argument) (target_back t)
@@ -99,7 +105,7 @@ reads_back r =
 -- ---- what reads well is written back to the same bytes
 
 four_zeros : (fs : List ℕ) → length fs ≡ 4 → all_zero fs ≡ true → 0 ∷ 0 ∷ 0 ∷ 0 ∷ [] ≡ fs
-four_zeros fs four zeros = (λ i. sym (at 0) i ∷ sym (at 1) i ∷ sym (at 2) i ∷ sym (at 3) i ∷ []) ∙ four_of fs four
+four_zeros fs four zeros = (λ i. sym (at 0) i ∷ sym (at 1) i ∷ sym (at 2) i ∷ sym (at 3) i ∷ []) ∙ items_are 0 4 fs four
   where
     at : (i : ℕ) → get_or fs i 0 ≡ 0
     at i = zero_at fs i zeros
@@ -115,15 +121,6 @@ target_read n fs t four e =
     let made = provided_at (places_lawful n fs) _ at.0 at.1 in
     (ap count_byte (sym at.2) ∙ ap (λ p. p.count) (sym made.1), ap place_fields (sym at.2) ∙ ap (λ p. p.fields) (sym made.1)))
     (cases_Bool (eqb n 255))
-
--- the n elements from place k on
-abbrev items : ℕ → ℕ → List ℕ → List ℕ
-items k zero bs = []
-items k (suc n) bs = get_or bs k 0 ∷ items (k + 1) n bs
-
-items_are : (k n : ℕ) (bs : List ℕ) → length bs ≡ k + n → items k n bs ≡ drop k bs
-items_are k zero bs long = sym (drop_all k bs (omega arith))
-items_are k (suc n) bs long = ap (λ l. get_or bs k 0 ∷ l) (items_are (k + 1) n bs (omega arith)) ∙ sym (drop_more bs k 0 (omega arith))
 
 module _ (bs : List ℕ) (small : (i : ℕ) → get_or bs i 0 < 256) where
   -- the byte at i, or that at j

@@ -25,6 +25,6 @@ abbrev pub just_front : ℕ → List Bool → Bool
 just_front n ms = front_full n ms && full_count ms == n
 
 -- a ring has at most 4,096 places, and the number of the full ones is kept beside it
-pub record InStep (size full : ℕ) (places : List Bool) : Type 0 where
+pub record IsCounted (size full : ℕ) (places : List Bool) : Type 0 where
   pub few : size ≤ 4096
   pub counted : full ≡ full_count places

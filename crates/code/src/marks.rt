@@ -22,15 +22,15 @@ pub(crate) struct Marks {
 }
 
 impl Model for Marks {
-    ghost use Rattle.ring.specs.Held.{held};
+    ghost use Rattle.ring.specs.Held.{held, size_of};
     ghost use Rattle.std.specs.Prelude.{Bool, List};
-    ghost use Rattle.code.specs.Marks.{InStep, full_count};
+    ghost use Rattle.code.specs.Marks.{IsCounted, full_count};
 
     ghost Value = { List Bool };
 
     ghost view = { λ m. held m.ring m.slots };
 
-    ghost invariant = { λ m. InStep m.ring.size m.full (held m.ring m.slots) };
+    ghost invariant = { λ m. IsCounted (size_of m.ring) m.full (held m.ring m.slots) };
 }
 
 // More places than a queue has count as the most.

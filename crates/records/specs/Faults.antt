@@ -1,6 +1,10 @@
 -- The faults that an arithmetic of this product answers, by their numbers. Assumes nothing.
 use Rattle.std.proofs.Common.{lit≤}
+use Rattle.std.specs.Prelude.{ℕ}
 use Rattle.records.specs.declared.fault.Fault.{Fault}
+
+abbrev pub number_of : Fault → ℕ
+number_of fault = fault.number
 
 -- a result outside the range
 abbrev pub out_of_range : Fault

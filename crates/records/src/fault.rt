@@ -13,6 +13,8 @@ pub struct Fault {
 }
 
 impl Fault {
+    ghost use Rattle.records.specs.Faults.{number_of};
+
     /// A result out of the range of the values.
     pub const OUT_OF_RANGE: Fault = Fault { number: 1 };
 
@@ -24,7 +26,7 @@ impl Fault {
 
     /// The fault of this number; 0 is none.
     pub fn new(number: u8) -> Option<Fault>
-        ensures by_number { MatchOption result (number ≡ 0) (λ f. f.number ≡ number) }
+        ensures by_number { MatchOption result (number ≡ 0) (λ fault. number_of fault ≡ number) }
     {
         if number == 0 {
             return None;
@@ -34,7 +36,7 @@ impl Fault {
 
     /// Its number, 1 to 255.
     pub fn number(&self) -> u8
-        ensures value { result ≡ self.now.number }
+        ensures value { result ≡ number_of self.now }
         ensures from_one { 1 ≤ result }
     {
         self.number
@@ -43,8 +45,9 @@ impl Fault {
 
 impl fmt::Display for Fault {
     ghost use Rattle.std.specs.Prelude.{Some, ◌++◌, codes, decimal};
+    ghost use Rattle.records.specs.Faults.{number_of};
 
-    ghost output = { λ fault. Some (codes "fault " ++ decimal fault.number) };
+    ghost output = { λ fault. Some (codes "fault " ++ decimal (number_of fault)) };
 
     fn fmt<W: fmt::Write>(&self, f: &mut fmt::Formatter<W>) -> fmt::Result {
         write!(f, "fault {}", self.number)

@@ -12,12 +12,12 @@ pub struct Ring {
 }
 
 impl Ring {
-    ghost use Rattle.ring.specs.Held.{held};
+    ghost use Rattle.ring.specs.Held.{front_of, held, size_of};
 
     /// A ring of that many slots, with slot k as place k.
     pub fn new(size: usize) -> Ring
-        ensures size { result.size ≡ size }
-        ensures front { result.front ≡ 0 }
+        ensures size { size_of result ≡ size }
+        ensures front { front_of result ≡ 0 }
         ensures as_they_stand { (xs : List ℕ) → length xs ≡ size → held result xs ≡ xs }
     {
         Ring::unturned(size)
@@ -25,29 +25,29 @@ impl Ring {
 
     // Apart, as the two below, so that a slip here breaks a contract of its own.
     fn unturned(size: usize) -> Ring
-        ensures size { result.size ≡ size }
-        ensures front { result.front ≡ 0 }
+        ensures size { size_of result ≡ size }
+        ensures front { front_of result ≡ 0 }
     {
         Ring { size, front: 0 }
     }
 
     /// How many places it has.
     pub fn size(&self) -> usize
-        ensures { result ≡ self.now.size }
+        ensures { result ≡ size_of self.now }
     {
         self.size
     }
 
     /// The slot of place k, if there is such a place.
     pub fn slot(&self, k: usize) -> Option<usize>
-        ensures value { result ≡ slot_of self.now.front self.now.size k }
-        ensures is_place_k { (xs : List ℕ) → length xs ≡ self.now.size → MatchOption result (length xs ≤ k) (λ j. (j < length xs) × (slice_index (held self.now xs) k ≡ slice_index xs j)) }
+        ensures value { result ≡ slot_of (front_of self.now) (size_of self.now) k }
+        ensures is_place_k { (xs : List ℕ) → length xs ≡ size_of self.now → MatchOption result (length xs ≤ k) (λ j. (j < length xs) × (slice_index (held self.now xs) k ≡ slice_index xs j)) }
     {
         self.slot_number(k)
     }
 
     fn slot_number(&self, k: usize) -> Option<usize>
-        ensures { result ≡ slot_of self.now.front self.now.size k }
+        ensures { result ≡ slot_of (front_of self.now) (size_of self.now) k }
     {
         if k >= self.size {
             return None;
@@ -62,16 +62,16 @@ impl Ring {
 
     /// The front moves on by one slot, so that the old front is the last place.
     pub fn turn(&mut self)
-        ensures size { self.new.size ≡ self.old.size }
-        ensures front { self.new.front ≡ next_front self.old.front self.old.size }
-        ensures shifts { (xs : List ℕ) → (v : ℕ) → length xs ≡ self.old.size → held self.new (slice_set xs self.old.front v) ≡ shifted v (held self.old xs) }
+        ensures size { size_of self.new ≡ size_of self.old }
+        ensures front { front_of self.new ≡ next_front (front_of self.old) (size_of self.old) }
+        ensures shifts { (xs : List ℕ) → (v : ℕ) → length xs ≡ size_of self.old → held self.new (slice_set xs (front_of self.old) v) ≡ shifted v (held self.old xs) }
     {
         self.move_on();
     }
 
     fn move_on(&mut self)
-        ensures size { self.new.size ≡ self.old.size }
-        ensures front { self.new.front ≡ next_front self.old.front self.old.size }
+        ensures size { size_of self.new ≡ size_of self.old }
+        ensures front { front_of self.new ≡ next_front (front_of self.old) (size_of self.old) }
     {
         if self.size - self.front > 1 {
             self.front += 1;

@@ -2,12 +2,12 @@ use Rattle.std.proofs.Common.{◌≡◌, [], ◌∷◌, set, subst, arith, true}
 use Rattle.ring.specs.Held.{held}
 use Rattle.records.specs.Refusals.{granted}
 use Rattle.code.specs.Verdict.{puts}
-use Rattle.code.proofs.MarkRings.{put_granted, put_in_step}
+use Rattle.code.proofs.MarkRings.{put_granted, put_counted}
 use Rattle.code.proofs.marks.Marks.put.Goals as goal
 
 pub invariant_of-self : goal.invariant_of-self
 invariant_of-self c =
-    put_in_step c.self.inside c.self.invariant c.self.told c.args.k c.in_ok-slot.slot (grind (arith, c.slot.ensures.value, c.ok_or.ensures.value, c.branch-slot.ensures, c.in_ok-slot.is)) c.if-self-slot.false
+    put_counted c.self.inside c.self.invariant c.self.told c.args.k c.in_ok-slot.slot (grind (arith, c.slot.ensures.value, c.ok_or.ensures.value, c.branch-slot.ensures, c.in_ok-slot.is)) c.if-self-slot.false
 
 pub returns : goal.returns
 returns c index =
