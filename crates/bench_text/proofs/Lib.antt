@@ -4,6 +4,7 @@ pub mod TextLaw
 pub mod LineLayout
 pub mod LineByLine
 pub mod CutAtMark
+pub mod FirstPlace
 pub mod LineForms
 pub mod BufferContents
 pub mod RecordBytes

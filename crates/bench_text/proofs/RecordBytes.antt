@@ -1,7 +1,7 @@
 -- What the pairs of digits of a record say of the whole.
 use Rattle.std.proofs.Common.{◌≡◌, ℕ, zero, suc, ◌+◌, ◌*◌, ◌/◌, ◌<◌, List, [], ◌∷◌, length, get_or, set, Some, None, Option, sym, refl, ap, ◌∙◌, ⊎_elim, arith}
 use Rattle.std.specs.Simd.{first_chunks}
-use Rattle.std.proofs.lemmas.Bool.{cases_eq, eq-eqb, cond-true}
+use Rattle.std.proofs.lemmas.Bool.{cases_eq, eq-eqb, ne_eqb, cond-false, cond-true}
 use Rattle.std.proofs.lemmas.Grind.{common_steps}
 use Rattle.bench_text.specs.Steps.{◌>>=◌}
 use Rattle.bench_text.specs.Hex.{hex_byte, hex_bytes, hex_record}
@@ -10,7 +10,7 @@ use Rattle.bench_text.specs.Hex.{hex_byte, hex_bytes, hex_record}
 abbrev pub byte_at : List (List ℕ) → ℕ → Option ℕ
 byte_at pairs i = hex_byte (get_or (get_or pairs i []) 0 0) (get_or (get_or pairs i []) 1 0)
 
-all_bytes : (line bytes : List ℕ) (n : ℕ) → length line ≡ 2 * n → length bytes ≡ n → ((i : ℕ) → i < n → byte_at (first_chunks 2 n line) i ≡ Some (get_or bytes i 0)) → hex_bytes line ≡ Some bytes
+pub all_bytes : (line bytes : List ℕ) (n : ℕ) → length line ≡ 2 * n → length bytes ≡ n → ((i : ℕ) → i < n → byte_at (first_chunks 2 n line) i ≡ Some (get_or bytes i 0)) → hex_bytes line ≡ Some bytes
 all_bytes [] [] n long room each = refl
 all_bytes [] (b ∷ bytes) n long room each = absurd (omega arith)
 all_bytes (d ∷ ds) [] n long room each = absurd (omega arith)
@@ -20,7 +20,7 @@ all_bytes (d ∷ e ∷ ds) (b ∷ bytes) (suc n) long room each =
     let more = all_bytes ds bytes n (omega arith) (omega arith) (λ i below. each (suc i) (omega arith)) in
     λ i. each 0 (omega arith) i >>= λ x. more i >>= λ xs. Some (x ∷ xs)
 
-no_bytes : (line : List ℕ) (n i : ℕ) → length line ≡ 2 * n → i < n → None ≡ byte_at (first_chunks 2 n line) i → None ≡ hex_bytes line
+pub no_bytes : (line : List ℕ) (n i : ℕ) → length line ≡ 2 * n → i < n → None ≡ byte_at (first_chunks 2 n line) i → None ≡ hex_bytes line
 no_bytes line zero i long within none = absurd (omega arith)
 no_bytes [] (suc n) i long within none = absurd (omega arith)
 no_bytes (d ∷ []) (suc n) i long within none = absurd (omega arith)
@@ -38,6 +38,9 @@ one_more f bytes i b within below here k bound =
 
 pub long_record : (line : List ℕ) → length line ≡ 32 → hex_bytes line ≡ hex_record line
 long_record line e = sym (cond-true _ _ _ (eq-eqb (length line) 32 e))
+
+pub other_record : (line : List ℕ) → (length line ≡ 32 → ⊥) → None ≡ hex_record line
+other_record line e = sym (cond-false _ (hex_bytes line) None (ne_eqb (length line) 32 e))
 
 module _ (line : List ℕ) (pairs : List (List ℕ)) (long : length line ≡ 32) (cut : pairs ≡ first_chunks 2 (length line / 2) line) where
   sixteen : pairs ≡ first_chunks 2 16 line

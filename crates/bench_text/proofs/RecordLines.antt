@@ -1,6 +1,6 @@
 -- The lines after the first are read just where they spell records, and refused just at the first that spells none.
-use Rattle.std.proofs.Common.{◌≡◌, ℕ, ◌+◌, List, [], ◌∷◌, ◌++◌, length, Some, None, Option, sym, refl, ap, ◌∙◌, ⊎_elim, append_assoc, append-nil, arith, sum_by}
-use Rattle.std.specs.List.{flat_map, AllZip}
+use Rattle.std.proofs.Common.{◌≡◌, ◌==◌, ℕ, ◌+◌, ◌<◌, List, [], ◌∷◌, ◌++◌, length, Some, None, Option, sym, refl, ap, ◌∙◌, ⊎_elim, append_assoc, append-nil, arith, sum_by}
+use Rattle.std.specs.List.{after_first, before_first, flat_map, AllZip}
 use Rattle.std.specs.Option.{option_map_or}
 use Rattle.std.proofs.lemmas.List.Sums.{sum_by-cons}
 use Rattle.bench_text.specs.declared.answers.BenchCounts.{BenchCounts}
@@ -8,10 +8,11 @@ use Rattle.bench_text.specs.declared.answers.Expected.{Expected}
 use Rattle.bench_text.specs.declared.answers.Expected.TheVariants.{Record}
 use Rattle.bench_text.specs.declared.headings.Header.{Header}
 use Rattle.bench_text.specs.Hex.{hex_record}
+use Rattle.bench_text.specs.Lines.{lines}
 use Rattle.bench_text.specs.Reading.{given, refused, counts_of, records_from}
 use Rattle.bench_text.specs.Spelling.{SpellsRecord, Meets}
 use Rattle.bench_text.proofs.Options.{cases_option}
-use Rattle.bench_text.proofs.LineByLine.{record_length}
+use Rattle.bench_text.proofs.LineByLine.{lines_step, record_length}
 use Rattle.bench_text.proofs.HexRecords.{record_spelt, record_read}
 
 -- one line of the records, as it was read
@@ -21,6 +22,17 @@ at_record h n code l ls o e = ap (λ (x : Option (List ℕ)). option_map_or (λ 
 -- after a record
 pub record_step : (h : Header) (n : ℕ) (code l : List ℕ) (ls : List (List ℕ)) (bytes : List ℕ) → hex_record l ≡ Some bytes → (records_from h n code (l ∷ ls) ≡ records_from h (n + 1) (code ++ bytes) ls) × (length bytes ≡ 16) × (sum_by length (l ∷ ls) ≡ 32 + sum_by length ls)
 record_step h n code l ls bytes e = (at_record h n code l ls (Some bytes) e, (record_spelt l bytes e).sixteen, omega (arith, record_length l bytes e, sum_by-cons length l ls))
+
+-- the first line of a text that is not empty, as a record and as none
+module _ (h : Header) (n : ℕ) (code rest line later : List ℕ) (some : 0 < length rest) (front : line ≡ before_first (λ b. b == 10) rest) (back : later ≡ after_first (λ b. b == 10) rest) where
+  by_lines : records_from h n code (line ∷ lines later) ≡ records_from h n code (lines rest)
+  by_lines = sym (ap (records_from h n code) (lines_step rest some ∙ (λ i. sym front i ∷ lines (sym back i))))
+
+  pub no_record : None ≡ hex_record line → refused (n + 2) Record code ≡ records_from h n code (lines rest)
+  no_record e = sym (at_record h n code line (lines later) None (sym e)) ∙ by_lines
+
+  pub one_record : (bytes : List ℕ) → Some bytes ≡ hex_record line → records_from h (n + 1) (code ++ bytes) (lines later) ≡ records_from h n code (lines rest)
+  one_record bytes e = sym (at_record h n code line (lines later) (Some bytes) (sym e)) ∙ by_lines
 
 pub records_spelt : (h : Header) (n : ℕ) (code : List ℕ) (ls : List (List ℕ)) (counts : BenchCounts) (all : List ℕ) → records_from h n code ls ≡ given counts all → (rows : List (List ℕ)) × AllZip SpellsRecord ls rows × (code ++ flat_map (λ row. row) rows ≡ all) × (counts ≡ counts_of h (n + length ls))
 records_spelt h n code [] counts all e =

@@ -6,7 +6,8 @@ ghost use Rattle.std.specs.List.{before_first, after_first};
 fn first_place(text: &[u8], mark: u8) -> Option<usize>
     ensures { result ≡ position (λ b. b == mark) text.now }
 {
-    text.iter().position(|&b| b == mark)
+    let front = text.split(|&b| b == mark).next()?;
+    (front.len() < text.len()).then_some(front.len())
 }
 
 // What stands before the first `mark` of `text` and what after it; nothing stands after a mark that is not there.

@@ -6,3 +6,5 @@ pub mod Chunks
 pub mod Counts
 pub mod MarkRings
 pub mod Verdicts
+pub mod FirstUnlawful
+pub mod Walks

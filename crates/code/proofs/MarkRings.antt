@@ -2,6 +2,7 @@
 use Rattle.std.proofs.Common.{◌≡◌, ℕ, ◌+◌, ◌-◌, ◌<◌, ◌≤◌, Bool, true, false, List, [], ◌∷◌, length, get_or, set, Some, sym, ap, ◌∙◌, arith}
 use Rattle.std.specs.Int.{from_bool}
 use Rattle.std.proofs.lemmas.Bool.{cond-false, cond-true, lt-ltb}
+use Rattle.std.proofs.lemmas.List.Sums.{count_by-le-length}
 use Rattle.ring.proofs.HeldPlaces.{front_slot, held_at, held_length, held_set, held_turned, slot_inside}
 use Rattle.ring.specs.Held.{held}
 use Rattle.ring.specs.Views.{next_front, slot_of}
@@ -19,6 +20,9 @@ puts_one i k ms there empty = sym (cond-true _ _ _ (lt-ltb k (length ms) there) 
 module _ (m : Inside) (so : IsCounted m.ring.size m.full (held m.ring m.slots)) (long : length m.slots ≡ 4096) where
   enough : m.ring.size ≤ length m.slots
   enough = omega (arith, so.few, long)
+
+  pub few_full : m.full ≤ 4096
+  few_full = omega (arith, so.counted, so.few, count_by-le-length (λ b. b) (held m.ring m.slots), held_length m.ring m.slots enough)
 
   -- j is the slot of place k, and empty
   module _ (k j : ℕ) (found : slot_of m.ring.front m.ring.size k ≡ Some j) (free : get_or m.slots j false ≡ false) where

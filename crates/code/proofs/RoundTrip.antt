@@ -49,7 +49,7 @@ zero_at [] i h = refl
 zero_at (x ∷ xs) i h = grind (arith, nat_tests, and_parts, zero_at xs (i - 1))
 
 module _ (r : Record) where
-  argument_fits : SFits w32 r.argument
+  pub argument_fits : SFits w32 r.argument
   argument_fits =
       let o = r.operation in
       let z = r.argument in
@@ -57,10 +57,10 @@ module _ (r : Record) where
       let ends = small_range o in
       record { sfits = fits_between (argument_range o).0 (argument_range o).1 z ends.0 ends.1 range.0 range.1 }
 
-  node_fits : r.node < 65536
+  pub node_fits : r.node < 65536
   node_fits = ltb-true r.node 65536 (and_parts _ _ r.lawful).0
 
-field_fits : (t : Target) (i : ℕ) → get_or (place_fields t) i 0 < 65536
+pub field_fits : (t : Target) (i : ℕ) → get_or (place_fields t) i 0 < 65536
 field_fits Rear i = grind (arith, places)
 field_fits (At p) i = below_at 65536 p.fields i (lit< tt) (and_parts (all_below 65536 p.fields) _ (and_parts (eqb (length p.fields) 4) _ p.lawful).1).0
 

@@ -5,7 +5,7 @@ use Rattle.records.specs.Refusals.{Answer, granted, refused, if_granted}
 use Rattle.std.proofs.lemmas.Bool.{cases_eq}
 
 -- what a step keeps once it is so stays so
-stays : {X : Type 0} (F : ℕ → X) (x : X) → ((k : ℕ) → F k ≡ x → F (suc k) ≡ x) → (n m : ℕ) → n ≤ m → F n ≡ x → F m ≡ x
+pub stays : {X : Type 0} (F : ℕ → X) (x : X) → ((k : ℕ) → F k ≡ x → F (suc k) ≡ x) → (n m : ℕ) → n ≤ m → F n ≡ x → F m ≡ x
 stays F x step n zero h e = let none : zero ≡ n = omega arith in ap F none ∙ e
 stays F x step n (suc m) h e =
     ⊎_elim (λ all. ap F (sym all) ∙ e) (λ less. step m (stays F x step n m (omega arith) e)) (cases_eq n (suc m))
@@ -15,7 +15,7 @@ module _ (code : List ℕ) (P : ℕ) where
   marks_on n ms next before is =
       ap (marks_after code P) (add-one n) ∙ ap (λ a. if_granted a (step_at n (lawful_at code n))) before ∙ sym is
 
-  marks_stay : (n m number place fault : ℕ) → n ≤ m → marks_after code P n ≡ refused number place fault → marks_after code P m ≡ refused number place fault
+  pub marks_stay : (n m number place fault : ℕ) → n ≤ m → marks_after code P n ≡ refused number place fault → marks_after code P m ≡ refused number place fault
   marks_stay n m number place fault h e =
       stays (marks_after code P) (refused number place fault) (λ k. ap (λ a. if_granted a (step_at k (lawful_at code k)))) n m h e
 

@@ -32,6 +32,8 @@ pub fn is_simple(code: &[u8]) -> bool
 }
 
 /// Record `index`, if it is there, laid out well and of the kind of record 0.
+// Inline, so that a caller that asks only whether there is one builds no record.
+#[inline(always)]
 pub fn lawful_record(code: &[u8], index: usize) -> Option<Record>
     ensures { result ≡ lawful_at code.now index }
 {

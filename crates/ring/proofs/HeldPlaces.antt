@@ -1,6 +1,6 @@
 -- The places of a ring over slots: how many, what a look and a write meet, what a turn makes of them. The clauses of `Ring`
 -- speak of slots that hold numbers; a crate with slots of another type cites these. Assumes nothing.
-use Rattle.std.proofs.Common.{◌≡◌, ℕ, ◌+◌, ◌-◌, ◌<◌, ◌≤◌, ◌⊎◌, List, length, get_or, take, set, Some, None, Option, sym, ap, ◌∙◌, inl, inr, ⊎_elim, append-nil, arith, length-set, MatchOption}
+use Rattle.std.proofs.Common.{◌≡◌, ℕ, ◌+◌, ◌-◌, ◌<◌, ◌≤◌, ◌⊎◌, cond, nat_lt, List, length, get_or, take, set, Some, None, Option, sym, ap, ◌∙◌, inl, inr, ⊎_elim, append-nil, arith, length-set, MatchOption}
 use lib.Seq.{take-set-lt}
 use Rattle.ring.proofs.RingViews.{view_length, view_turn, view_over}
 use Rattle.ring.specs.Held.{held}
@@ -15,11 +15,15 @@ module _ (front size k : ℕ) where
   pub slot_inside : (j : ℕ) → slot_of front size k ≡ Some j → k < size
   slot_inside j e = grind (arith, nat_tests)
 
-  slot_none : slot_of front size k ≡ None → size ≤ k
+  pub slot_none : slot_of front size k ≡ None → size ≤ k
   slot_none e = grind (arith, nat_tests)
 
   pub slot_missing : size ≤ k → slot_of front size k ≡ None
   slot_missing h = grind (arith, nat_tests)
+
+  -- the slot by the two ways round
+  pub slot_is : (j : ℕ) → slot_of front size k ≡ Some j → j ≡ cond (nat_lt k (size - front)) (front + k) (k - (size - front))
+  slot_is j e = grind (arith, nat_tests)
 
 -- place 0 is the slot at the front
 pub front_slot : (r : Ring) (j : ℕ) → slot_of r.front r.size 0 ≡ Some j → j ≡ r.front
